@@ -1,0 +1,13 @@
+pub mod Tests
+pub mod OneAnswer
+pub mod Choices
+pub mod MadeAndTakenApart
+pub mod ElementsKeepTheirSets
+pub mod G0IsNeverOf96Type
+pub mod OpeningMakesTheStart
+pub mod FilledPositions
+pub mod ThereAndBack
+pub mod BackAndThere
+pub mod ExamplesOfPositions
+pub mod ExamplesOfSequences
+pub mod ExamplesOfNumbers

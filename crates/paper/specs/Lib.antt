@@ -1,0 +1,9 @@
+pub mod Choice
+pub mod Words
+pub mod CodeTable
+pub mod Sets
+pub mod Starting
+pub mod Sequences
+pub mod Refusals
+pub mod Results
+pub mod LatinGreek

@@ -1,0 +1,17 @@
+-- Refusal numbers. Where each stands in a text is said by whoever gives it: the reader 1 to 6, a conversion 7 to 9; a lookup
+-- gives 10 or 11 at place 0.
+use Prim.Native.Nat.{ℕ}
+use Rattle.paper.specs.Words.{Refusal}
+
+abbrev pub numberOf : Refusal → ℕ
+numberOf Refusal.ByteOfEightBits = 1
+numberOf Refusal.NotOfSequence = 2
+numberOf Refusal.ThirdIntermediate = 3
+numberOf Refusal.WithoutMeaning = 4
+numberOf Refusal.NotOfSet = 5
+numberOf Refusal.AnotherArea = 6
+numberOf Refusal.EndsInside = 7
+numberOf Refusal.TooLong = 8
+numberOf Refusal.BufferShort = 9
+numberOf Refusal.NoNumber = 10
+numberOf Refusal.NotMapped = 11

@@ -1,0 +1,139 @@
+-- Escape sequences: ESC (1/11), up to two intermediates (column 2), one final (3/0 to 7/14).
+use Prim.Native.Nat.{ℕ, _-_}
+use mathlib.Core.Bool.{Bool}
+use lib.Dec.{leb, eqb}
+use Rattle.paper.specs.Choice.{_gives_or_, between}
+use Rattle.paper.specs.Words.{Form, Seven, Eight, ControlElement, Element, G0, G1, G2, G3, Of94, Of96, Count, Set, Sets, SequenceByte, Intermediate, Final, Neither, Intermediates, Shift, LS0, LS1, LS2, LS3, LS1R, LS2R, LS3R, SS2, SS3, Meaning, NoMeaning, Function, Shifts, Refusal, Answer}
+use Rattle.paper.specs.Sets.{designated, designatedControls}
+
+abbrev pub isIntermediate : ℕ → Bool
+isIntermediate b = between 0x20 0x2F b
+
+abbrev pub isFinal : ℕ → Bool
+isFinal b = between 0x30 0x7E b
+
+-- which byte continues a sequence, ends it, or may not stand in it
+unfoldable pub sequenceByte : ℕ → SequenceByte
+sequenceByte b =
+    isIntermediate b gives Intermediate or
+    isFinal b gives Final or
+    Neither
+
+-- the C1 function 0 to 31; function 14 is SS2 and 15 SS3
+unfoldable pub c1Function : ℕ → Meaning
+c1Function n =
+    eqb n 14 gives Shifts SS2 or
+    eqb n 15 gives Shifts SS3 or
+    leb n 31 gives Function n or
+    NoMeaning
+
+-- a shift into GR, which has no meaning in 7-bit form (H)
+abbrev pub rightShift : Form → Shift → Meaning
+rightShift Seven h = NoMeaning
+rightShift Eight h = Shifts h
+
+-- F 6/0 to 7/14: LS2, LS3, LS1R, LS2R, LS3R; the rest is other
+unfoldable pub shiftOrOther : Form → ℕ → Meaning
+shiftOrOther m f =
+    eqb f 0x6E gives Shifts LS2 or
+    eqb f 0x6F gives Shifts LS3 or
+    eqb f 0x7E gives rightShift m LS1R or
+    eqb f 0x7D gives rightShift m LS2R or
+    eqb f 0x7C gives rightShift m LS3R or
+    Meaning.Other
+
+-- ESC F
+unfoldable pub meaningOfNone : Form → ℕ → Meaning
+meaningOfNone m f =
+    between 0x30 0x3F f gives Meaning.Other or
+    between 0x40 0x5F f gives c1Function (f - 0x40) or
+    between 0x60 0x7E f gives shiftOrOther m f or
+    NoMeaning
+
+-- 2/8 to 2/11: a 94 set into G0 to G3; 2/13 to 2/15: a 96 set into G1 to G3
+unfoldable pub designation : ℕ → Count → Meaning
+designation i n =
+    eqb i 0x28 gives Meaning.Designate G0 Of94 n or
+    eqb i 0x29 gives Meaning.Designate G1 Of94 n or
+    eqb i 0x2A gives Meaning.Designate G2 Of94 n or
+    eqb i 0x2B gives Meaning.Designate G3 Of94 n or
+    eqb i 0x2D gives Meaning.Designate G1 Of96 n or
+    eqb i 0x2E gives Meaning.Designate G2 Of96 n or
+    eqb i 0x2F gives Meaning.Designate G3 Of96 n or
+    NoMeaning
+
+-- ESC 2/4 F, F 4/0 to 4/2: a 94 set of 2 bytes into G0
+unfoldable pub shortDesignation : ℕ → Meaning
+shortDesignation f = between 0x40 0x42 f gives Meaning.Designate G0 Of94 Count.Two or NoMeaning
+
+-- ESC I F, F any final
+unfoldable pub byIntermediate : ℕ → ℕ → Meaning
+byIntermediate i f =
+    eqb i 0x20 gives Meaning.Other or
+    eqb i 0x23 gives Meaning.Other or
+    eqb i 0x26 gives Meaning.Other or
+    eqb i 0x21 gives Meaning.DesignateControls ControlElement.C0 or
+    eqb i 0x22 gives Meaning.DesignateControls ControlElement.C1 or
+    eqb i 0x24 gives shortDesignation f or
+    designation i Count.One
+
+unfoldable pub meaningOfOne : ℕ → ℕ → Meaning
+meaningOfOne i f = isFinal f gives byIntermediate i f or NoMeaning
+
+-- one of the seven, F: 2 bytes for F in columns 4 and 5, 3 for column 6; with F in column 3 or 7 no meaning (H)
+unfoldable pub severalBytes : ℕ → ℕ → Meaning
+severalBytes j f =
+    between 0x40 0x5F f gives designation j Count.Two or
+    between 0x60 0x6F f gives designation j Count.Three or
+    NoMeaning
+
+-- ESC I I F
+unfoldable pub meaningOfTwo : ℕ → ℕ → ℕ → Meaning
+meaningOfTwo i j f = eqb i 0x24 gives severalBytes j f or NoMeaning
+
+-- the table; every other sequence has no meaning
+abbrev pub meaningOf : Form → Intermediates → ℕ → Meaning
+meaningOf m Intermediates.None f = meaningOfNone m f
+meaningOf m (Intermediates.One i) f = meaningOfOne i f
+meaningOf m (Intermediates.Two i j) f = meaningOfTwo i j f
+
+-- what the final answers: other with its bytes, the C1 function with C1's set, no meaning refused
+abbrev pub sequenceAnswer : Meaning → Sets → Intermediates → ℕ → Answer
+sequenceAnswer NoMeaning t s f = Answer.Refused Refusal.WithoutMeaning
+sequenceAnswer Meaning.Other t s f = Answer.Other s f
+sequenceAnswer (Function n) t s f = Answer.Control ControlElement.C1 (t .c1) n
+sequenceAnswer (Shifts h) t s f = Answer.Shift h
+sequenceAnswer (Meaning.DesignateControls w) t s f = Answer.DesignateControls w f
+sequenceAnswer (Meaning.Designate e k n) t s f = Answer.Designate e (record { kind = k; count = n; last = f })
+
+-- a designation takes effect at its final byte; nothing else changes the sets
+abbrev pub setsAfter : Sets → Meaning → ℕ → Sets
+setsAfter t NoMeaning f = t
+setsAfter t Meaning.Other f = t
+setsAfter t (Function n) f = t
+setsAfter t (Shifts h) f = t
+setsAfter t (Meaning.DesignateControls w) f = designatedControls t w f
+setsAfter t (Meaning.Designate e k n) f = designated t e (record { kind = k; count = n; last = f })
+
+-- LS0 to LS3: G0 to G3 into GL; LS1R to LS3R: G1 to G3 into GR
+abbrev pub glAfter : Shift → Element → Element
+glAfter LS0 e = G0
+glAfter LS1 e = G1
+glAfter LS2 e = G2
+glAfter LS3 e = G3
+glAfter LS1R e = e
+glAfter LS2R e = e
+glAfter LS3R e = e
+glAfter SS2 e = e
+glAfter SS3 e = e
+
+abbrev pub grAfter : Shift → Element → Element
+grAfter LS0 e = e
+grAfter LS1 e = e
+grAfter LS2 e = e
+grAfter LS3 e = e
+grAfter LS1R e = G1
+grAfter LS2R e = G2
+grAfter LS3R e = G3
+grAfter SS2 e = e
+grAfter SS3 e = e
