@@ -1,0 +1,23 @@
+-- Each return is the row of `meaningOfNone` that the tests before it leave; 4/0 is taken off a byte that is at least 4/0.
+use mathlib.Core.Path.{sym, _∙_}
+use Rattle.paper.proofs.Choices.{between-bounds}
+use Rattle.paper.specs.Sequences.{meaningOfNone}
+use borrow.Author.Needs.{needs}
+use Rattle.escapes.proofs.meaning_of_none.Statement.{statement}
+use Rattle.escapes.proofs.meaning_of_none.Tie as tie
+
+pub meaning-of-none-spec : {M : Type 1} → statement M
+unfolding meaningOfNone
+meaning-of-none-spec =
+    tie.close
+    (tie.spec
+    (λ c κs. search needs)
+    (λ c. simp (← c .before .between .ensures, c .if1 .taken))
+    (λ c κs. search needs)
+    (λ c. between-bounds 0x40 0x5F _ (sym (c .before .between2 .ensures) ∙ c .if2 .taken) .0)
+    (λ c κs. search needs)
+    (λ c. simp (← c .before .before .before .before .between .ensures, c .before .before .before .if1 .left, ← c .before .before .between2 .ensures, c .before .if2 .taken, c .c1-function .ensures))
+    (λ c κs. search needs)
+    (λ c κs. search needs)
+    (λ c. simp (← c .before .before .before .before .before .before .between .ensures, c .before .before .before .before .before .if1 .left, ← c .before .before .before .before .between2 .ensures, c .before .before .before .if2 .left, ← c .before .before .between3 .ensures, c .before .if3 .taken, c .shift-or-other .ensures))
+    (λ c. simp (← c .before .before .before .before .before .between .ensures, c .before .before .before .before .if1 .left, ← c .before .before .before .between2 .ensures, c .before .before .if2 .left, ← c .before .between3 .ensures, c .if3 .left)))

@@ -1,0 +1,181 @@
+// What an escape sequence means: the paper's table, a row to a line.
+use codetable::between;
+use paper::ControlElement;
+use paper::Count;
+use paper::Element;
+use paper::Form;
+use paper::Intermediates;
+use paper::Kind;
+use paper::Meaning;
+use paper::SequenceByte;
+use paper::Shift;
+ghost use mathlib.Core.Path.{_≡_};
+ghost use Rattle.paper.specs.Sequences.{sequenceByte, c1Function, rightShift, shiftOrOther, meaningOfNone, designation, shortDesignation, byIntermediate, meaningOfOne, severalBytes, meaningOfTwo, meaningOf};
+
+// A final is 3/0 to 7/14.
+const FIRST_FINAL: u8 = 0x30;
+
+const LAST_FINAL: u8 = 0x7E;
+
+// The C1 functions are numbered 0 to 31.
+const LAST_FUNCTION: u8 = 31;
+
+// The intermediate that leads to sets of several bytes.
+const SEVERAL: u8 = 0x24;
+
+// What a byte is inside a sequence: it goes on, it ends, or the byte may not stand there.
+pub fn sequence_byte(byte: u8) -> SequenceByte
+    ensures { λ r. ⌜ r ≡ sequenceByte byte ⌝ }
+{
+    if between(0x20, 0x2F, byte) {
+        return SequenceByte::Intermediate;
+    }
+    if between(FIRST_FINAL, LAST_FINAL, byte) {
+        return SequenceByte::Final;
+    }
+    SequenceByte::Neither
+}
+
+// The C1 function 0 to 31, of which 14 and 15 are the single shifts.
+pub fn c1_function(number: u8) -> Meaning
+    ensures { λ r. ⌜ r ≡ c1Function number ⌝ }
+{
+    match number {
+        14 => Meaning::Shifts(Shift::SS2),
+        15 => Meaning::Shifts(Shift::SS3),
+        _ => {
+            if number <= LAST_FUNCTION {
+                Meaning::Function(number)
+            } else {
+                Meaning::NoMeaning
+            }
+        }
+    }
+}
+
+// A shift into GR has no meaning in 7-bit form.
+fn right_shift(form: Form, shift: Shift) -> Meaning
+    ensures { λ r. ⌜ r ≡ rightShift form shift ⌝ }
+{
+    match form {
+        Form::Seven => Meaning::NoMeaning,
+        Form::Eight => Meaning::Shifts(shift),
+    }
+}
+
+// F of columns 6 and 7.
+fn shift_or_other(form: Form, last: u8) -> Meaning
+    ensures { λ r. ⌜ r ≡ shiftOrOther form last ⌝ }
+{
+    match last {
+        0x6E => Meaning::Shifts(Shift::LS2),
+        0x6F => Meaning::Shifts(Shift::LS3),
+        0x7E => right_shift(form, Shift::LS1R),
+        0x7D => right_shift(form, Shift::LS2R),
+        0x7C => right_shift(form, Shift::LS3R),
+        _ => Meaning::Other,
+    }
+}
+
+// ESC F
+fn meaning_of_none(form: Form, last: u8) -> Meaning
+    ensures { λ r. ⌜ r ≡ meaningOfNone form last ⌝ }
+{
+    if between(0x30, 0x3F, last) {
+        return Meaning::Other;
+    }
+    if between(0x40, 0x5F, last) {
+        return c1_function(last - 0x40);
+    }
+    if between(0x60, 0x7E, last) {
+        return shift_or_other(form, last);
+    }
+    Meaning::NoMeaning
+}
+
+// The seven intermediates that designate a graphic set.
+fn designate_by(intermediate: u8, count: Count) -> Meaning
+    ensures { λ r. ⌜ r ≡ designation intermediate count ⌝ }
+{
+    match intermediate {
+        0x28 => Meaning::Designate(Element::G0, Kind::Of94, count),
+        0x29 => Meaning::Designate(Element::G1, Kind::Of94, count),
+        0x2A => Meaning::Designate(Element::G2, Kind::Of94, count),
+        0x2B => Meaning::Designate(Element::G3, Kind::Of94, count),
+        0x2D => Meaning::Designate(Element::G1, Kind::Of96, count),
+        0x2E => Meaning::Designate(Element::G2, Kind::Of96, count),
+        0x2F => Meaning::Designate(Element::G3, Kind::Of96, count),
+        _ => Meaning::NoMeaning,
+    }
+}
+
+// ESC 2/4 F
+fn short_designation(last: u8) -> Meaning
+    ensures { λ r. ⌜ r ≡ shortDesignation last ⌝ }
+{
+    if between(0x40, 0x42, last) {
+        Meaning::Designate(Element::G0, Kind::Of94, Count::Two)
+    } else {
+        Meaning::NoMeaning
+    }
+}
+
+// ESC I F, F any final
+fn by_intermediate(first: u8, last: u8) -> Meaning
+    ensures { λ r. ⌜ r ≡ byIntermediate first last ⌝ }
+{
+    match first {
+        0x20 => Meaning::Other,
+        0x23 => Meaning::Other,
+        0x26 => Meaning::Other,
+        0x21 => Meaning::DesignateControls(ControlElement::C0),
+        0x22 => Meaning::DesignateControls(ControlElement::C1),
+        SEVERAL => short_designation(last),
+        _ => designate_by(first, Count::One),
+    }
+}
+
+fn meaning_of_one(first: u8, last: u8) -> Meaning
+    ensures { λ r. ⌜ r ≡ meaningOfOne first last ⌝ }
+{
+    if between(FIRST_FINAL, LAST_FINAL, last) {
+        by_intermediate(first, last)
+    } else {
+        Meaning::NoMeaning
+    }
+}
+
+// One of the seven, F: how many bytes there are to a character goes by F.
+fn several_bytes(second: u8, last: u8) -> Meaning
+    ensures { λ r. ⌜ r ≡ severalBytes second last ⌝ }
+{
+    if between(0x40, 0x5F, last) {
+        return designate_by(second, Count::Two);
+    }
+    if between(0x60, 0x6F, last) {
+        return designate_by(second, Count::Three);
+    }
+    Meaning::NoMeaning
+}
+
+// ESC I I F
+fn meaning_of_two(first: u8, second: u8, last: u8) -> Meaning
+    ensures { λ r. ⌜ r ≡ meaningOfTwo first second last ⌝ }
+{
+    if first == SEVERAL {
+        several_bytes(second, last)
+    } else {
+        Meaning::NoMeaning
+    }
+}
+
+// What the sequence with these intermediates and this last byte means.
+pub fn meaning_of(form: Form, intermediates: Intermediates, last: u8) -> Meaning
+    ensures { λ r. ⌜ r ≡ meaningOf form intermediates last ⌝ }
+{
+    match intermediates {
+        Intermediates::None => meaning_of_none(form, last),
+        Intermediates::One(first) => meaning_of_one(first, last),
+        Intermediates::Two(first, second) => meaning_of_two(first, second, last),
+    }
+}
