@@ -1,0 +1,25 @@
+-- The loop ends, since each turn leaves fewer of the 256 bytes.
+use borrow.Author.Needs.{needs}
+use Prim.Native.Nat.{_-_}
+use Rattle.sequences.proofs.bytes.Statement.{statement}
+use Rattle.sequences.proofs.bytes.Tie as tie
+
+abbrev Inv-loop : tie.InvT-loop
+Inv-loop byte₀ byte = Unit
+
+abbrev μ-loop : tie.MeasureT-loop
+μ-loop byte₀ byte = 256 - byte
+
+pub bytes-spec : {M : Type 1} → statement M
+bytes-spec =
+    tie.close
+    (tie.spec
+    Inv-loop
+    μ-loop
+    (λ c. search needs)
+    (λ c κs. search needs)
+    (λ c. search needs)
+    (λ c. search needs)
+    (λ c. search needs)
+    (λ c. search needs)
+    (λ c. search needs))
