@@ -1,15 +1,14 @@
 -- Demand 2, characters: a number that is found stands at the position found, since the search hands out no position but one
 -- that has the number.
-use Prim.Native.Nat.{ℕ, suc, _+_, _≤_, _<_}
-use mathlib.Core.Path.{_≡_, refl, _∙_, ap, subst}
+use Prim.Native.Nat.{ℕ}
+use mathlib.Core.Path.{_≡_, refl, _∙_, ap}
 use mathlib.Core.Bool.{Bool, true, false}
 use mathlib.Core.List.{List, [], _∷_}
 use native.Mathlib.Omega.{arith}
 use borrow.Author.Tests.{eqb-true}
-use lib.Dec.{eqb}
-use Rattle.paper.specs.Choice.{_gives_or_, numbers}
-use Rattle.paper.specs.Words.{Position, Made, Count, Set, Numbered, Located}
-use Rattle.paper.specs.CodeTable.{byteAt, positionOf}
+use Rattle.paper.specs.Choice.{_gives_or_}
+use Rattle.paper.specs.Words.{Position, Count, Set, Numbered, Located}
+use Rattle.paper.specs.CodeTable.{positionOf}
 use Rattle.paper.specs.Starting.{latin, greek}
 use Rattle.paper.specs.LatinGreek.{numberIn, numberMade, unicodeOf, isNumber, firstWith, locate, positionBytes}
 use Rattle.paper.proofs.MadeAndTakenApart.{made-again}

@@ -30,7 +30,8 @@ between-bounds first last n e =
     (leb-true first n (h .0), leb-true n last (h .1))
 
 -- the function of a list's entries, against the function of the numbers that follow each other
-pub alike : {A : Type 0} (f g : ℕ → A) (l : List ℕ) (n first : ℕ) → map f l ≡ map g (numbers n first) → (k : ℕ) → k < n → f (getD l k 0) ≡ g (first + k)
+pub alike : {A : Type 0} (f g : ℕ → A) (l : List ℕ) (n first : ℕ) → map f l ≡ map g (numbers n first) →
+    (k : ℕ) → k < n → f (getD l k 0) ≡ g (first + k)
 alike f g l zero first e k h = absurd (not-suc-le-zero h)
 alike f g [] (suc n) first e k h = impossible (cc)
 alike f g (x ∷ l) (suc n) first e zero h = rw add-zero (cc)
@@ -42,7 +43,8 @@ numbers-at (suc n) first zero h = sym (add-zero first)
 numbers-at (suc n) first (suc k) h = numbers-at n (suc first) k (le-of-suc-le-suc h) ∙ suc-add first k ∙ sym (add-suc first k)
 
 -- two functions of the numbers that follow each other
-pub agree : {A : Type 0} (f g : ℕ → A) (n first : ℕ) → map f (numbers n first) ≡ map g (numbers n first) → (k : ℕ) → first ≤ k → k < first + n → f k ≡ g k
+pub agree : {A : Type 0} (f g : ℕ → A) (n first : ℕ) → map f (numbers n first) ≡ map g (numbers n first) →
+    (k : ℕ) → first ≤ k → k < first + n → f k ≡ g k
 agree f g n first e k low high =
     let below : k - first < n = omega arith in
     let there : first + (k - first) ≡ k = omega arith in

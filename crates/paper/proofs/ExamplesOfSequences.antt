@@ -4,8 +4,8 @@ use Prim.Native.Nat.{ℕ}
 use mathlib.Core.Path.{_≡_, refl}
 use mathlib.Core.List.{List, [], _∷_, map}
 use Rattle.paper.specs.Choice.{between}
-use Rattle.paper.specs.Words.{Form, Seven, Eight, ControlElement, G0, G1, G2, G3, Of94, Of96, Count, SequenceByte, Intermediate, Final, Neither, Intermediates, LS0, LS1, LS2, LS3, LS1R, LS2R, LS3R, SS2, SS3, Meaning, NoMeaning, Function, Shifts}
-use Rattle.paper.specs.Sequences.{sequenceByte, c1Function, shiftOrOther, designation, shortDesignation, severalBytes, meaningOfNone, byIntermediate, meaningOfOne, meaningOfTwo, meaningOf, sequenceAnswer, setsAfter, glAfter, grAfter}
+use Rattle.paper.specs.Words.{Form, Seven, Eight, ControlElement, G0, G1, G2, G3, Of94, Of96, Count, Intermediate, Final, Neither, Intermediates, Shift, LS0, LS1, LS2, LS3, LS1R, LS2R, LS3R, SS2, SS3, Meaning, NoMeaning, Function, Shifts}
+use Rattle.paper.specs.Sequences.{sequenceByte, c1Function, shiftOrOther, designation, shortDesignation, severalBytes, meaningOfNone, byIntermediate, meaningOfOne, meaningOfTwo, meaningOf, sequenceAnswer, glAfter, grAfter}
 use Rattle.paper.specs.Starting.{startingSets}
 use Rattle.paper.specs.Results.{wordOf, valuesOf}
 
@@ -65,7 +65,8 @@ sequenceExamples =
     one 0x1F 0x41 NoMeaning ∷ one 0x30 0x41 NoMeaning ∷ two 0x1F 0x28 0x42 NoMeaning ∷ two 0x24 0x38 0x42 NoMeaning ∷
     alone 0x2F NoMeaning ∷ alone 0x7F NoMeaning ∷ one 0x20 0x2F NoMeaning ∷ one 0x28 0x7F NoMeaning ∷ two 0x24 0x28 0x7F NoMeaning ∷ []
 
-pub sequences-mean : (m : Form) → map (λ (w : Example). meaningOf m (w .intermediates) (w .last)) sequenceExamples ≡ map (λ (w : Example). w .means) sequenceExamples
+pub sequences-mean : (m : Form) →
+    map (λ (w : Example). meaningOf m (w .intermediates) (w .last)) sequenceExamples ≡ map (λ (w : Example). w .means) sequenceExamples
 unfolding between c1Function shiftOrOther designation shortDesignation severalBytes meaningOfNone byIntermediate meaningOfOne meaningOfTwo
 sequences-mean m = refl
 
@@ -88,10 +89,13 @@ pub bytes-of-sequences :
 unfolding sequenceByte between
 bytes-of-sequences = refl
 
+abbrev shifts : List Shift
+shifts = LS0 ∷ LS1 ∷ LS2 ∷ LS3 ∷ LS1R ∷ LS2R ∷ LS3R ∷ SS2 ∷ SS3 ∷ []
+
 -- LS0 to LS3 into GL, LS1R to LS3R into GR, and no other
 pub shifts-show :
-    (map (λ h. glAfter h G1) (LS0 ∷ LS1 ∷ LS2 ∷ LS3 ∷ LS1R ∷ LS2R ∷ LS3R ∷ SS2 ∷ SS3 ∷ []) ≡ G0 ∷ G1 ∷ G2 ∷ G3 ∷ G1 ∷ G1 ∷ G1 ∷ G1 ∷ G1 ∷ []) ×
-    (map (λ h. grAfter h G0) (LS0 ∷ LS1 ∷ LS2 ∷ LS3 ∷ LS1R ∷ LS2R ∷ LS3R ∷ SS2 ∷ SS3 ∷ []) ≡ G0 ∷ G0 ∷ G0 ∷ G0 ∷ G1 ∷ G2 ∷ G3 ∷ G0 ∷ G0 ∷ [])
+    (map (λ h. glAfter h G1) shifts ≡ G0 ∷ G1 ∷ G2 ∷ G3 ∷ G1 ∷ G1 ∷ G1 ∷ G1 ∷ G1 ∷ []) ×
+    (map (λ h. grAfter h G0) shifts ≡ G0 ∷ G0 ∷ G0 ∷ G0 ∷ G1 ∷ G2 ∷ G3 ∷ G0 ∷ G0 ∷ [])
 shifts-show = (refl, refl)
 
 -- what the final of ESC 2/4 2/11 6/0 answers under each meaning, by the paper's words and values

@@ -3,7 +3,7 @@ use Prim.Native.Nat.{ℕ, _-_}
 use mathlib.Core.Path.{_≡_, refl}
 use mathlib.Core.List.{List, [], _∷_}
 use lib.Dec.{leb, eqb}
-use Rattle.paper.specs.Choice.{_gives_or_, between}
+use Rattle.paper.specs.Choice.{between}
 use Rattle.paper.specs.Words.{Form, Seven, Eight, Of94, Count, Sets, Intermediates, Shift, LS1R, LS2R, LS3R, Meaning}
 use Rattle.paper.specs.Sequences.{isFinal, c1Function, rightShift, shiftOrOther, meaningOfNone, designation, shortDesignation, byIntermediate, meaningOfOne, severalBytes, meaningOfTwo, meaningOf, setsAfter}
 use Rattle.paper.specs.Starting.{startingSets}

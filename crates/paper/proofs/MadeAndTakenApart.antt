@@ -7,7 +7,7 @@ use native.Mathlib.Omega.{arith}
 use borrow.Author.Tests.{le-leb, leb-true}
 use lib.Dec.{leb}
 use Rattle.paper.specs.Choice.{_gives_or_}
-use Rattle.paper.specs.Words.{Column, Row, Position, Made, Area, Form, Seven, Eight}
+use Rattle.paper.specs.Words.{Column, Row, Made, Area, Form, Seven, Eight}
 use Rattle.paper.specs.CodeTable.{highest, byteAt, positionOf, lastOfC0, lastOfGL, lastOfC1, columnArea, formHasColumn}
 use Rattle.paper.proofs.Choices.{impossible}
 

@@ -2,7 +2,7 @@
 -- were and whatever was shown; in 7-bit form GR is not touched.
 use Prim.Native.Nat.{ℕ}
 use mathlib.Core.Path.{_≡_, refl}
-use mathlib.Core.List.{List, [], _∷_, _++_}
+use mathlib.Core.List.{List, [], _∷_}
 use lib.ListN.{length}
 use Rattle.paper.specs.Choice.{between}
 use Rattle.paper.specs.CodeTable.{so, si, esc}
@@ -35,13 +35,16 @@ opening-parts Eight = refl
 abbrev pub shown : Shift → Reader → Reader
 shown h r = record { form = r .form; sets = r .sets; gl = glAfter h (r .gl); gr = grAfter h (r .gr); standing = r .standing }
 
+abbrev pub with : Sets → Reader → Reader
+with t r = record { form = r .form; sets = t; gl = r .gl; gr = r .gr; standing = r .standing }
+
 abbrev pub after : Meaning → ℕ → Reader → Reader
 after NoMeaning f r = r
 after Meaning.Other f r = r
 after (Function n) f r = r
 after (Shifts h) f r = shown h r
-after (Meaning.DesignateControls w) f r = record { form = r .form; sets = setsAfter (r .sets) (Meaning.DesignateControls w) f; gl = r .gl; gr = r .gr; standing = r .standing }
-after (Meaning.Designate e k n) f r = record { form = r .form; sets = setsAfter (r .sets) (Meaning.Designate e k n) f; gl = r .gl; gr = r .gr; standing = r .standing }
+after (Meaning.DesignateControls w) f r = with (setsAfter (r .sets) (Meaning.DesignateControls w) f) r
+after (Meaning.Designate e k n) f r = with (setsAfter (r .sets) (Meaning.Designate e k n) f) r
 
 abbrev pub opened : List Part → Reader → Reader
 opened [] r = r
@@ -53,8 +56,9 @@ opened (one i f ∷ l) r = opened l (after (meaningOf (r .form) (Intermediates.O
 abbrev pub reader : Form → Sets → Element → Element → Reader
 reader m t l g = record { form = m; sets = t; gl = l; gr = g; standing = Standing.InStep Within.Ground }
 
-pub opening-makes-the-start :
-    (t : Sets) (l g : Element) → (opened (parts Eight) (reader Eight t l g) ≡ started Eight) × (opened (parts Seven) (reader Seven t l G1) ≡ started Seven)
+pub opening-makes-the-start : (t : Sets) (l g : Element) →
+    (opened (parts Eight) (reader Eight t l g) ≡ started Eight) ×
+    (opened (parts Seven) (reader Seven t l G1) ≡ started Seven)
 unfolding between designation c1Function shiftOrOther meaningOfNone byIntermediate meaningOfOne
 opening-makes-the-start t l g = (refl, refl)
 

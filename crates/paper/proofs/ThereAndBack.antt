@@ -1,15 +1,15 @@
 -- Demand 2, characters: a position that has a number is found by it. Only the two mapped sets have numbers; along the 96
 -- position bytes of each, one computation looks every number up again.
-use Prim.Native.Nat.{ℕ, _+_, _-_, _≤_, _<_}
-use mathlib.Core.Path.{_≡_, refl, _∙_, sym, ap, subst}
+use Prim.Native.Nat.{ℕ, _+_, _≤_}
+use mathlib.Core.Path.{_≡_, refl, _∙_, sym, ap}
 use mathlib.Core.Logic.{_⊎_, inl, inr, ⊎-elim}
 use mathlib.Core.Bool.{Bool, true, false}
-use mathlib.Core.List.{List, [], _∷_, map}
+use mathlib.Core.List.{map}
 use native.Mathlib.Omega.{arith}
 use borrow.Author.Tests.{eqb-true}
 use lib.Dec.{eqb}
-use Rattle.paper.specs.Choice.{_gives_or_, between, numbers}
-use Rattle.paper.specs.Words.{Column, Row, Position, Made, Kind, Of94, Of96, Count, Set, SetByte, OfSpace, OfDelete, OfSet, Outside, Numbered, Located}
+use Rattle.paper.specs.Choice.{_gives_or_, between}
+use Rattle.paper.specs.Words.{Column, Row, Made, Kind, Of94, Of96, Count, Set, SetByte, OfSpace, OfDelete, OfSet, Outside, Numbered, Located}
 use Rattle.paper.specs.CodeTable.{byteAt, positionOf, bit8}
 use Rattle.paper.specs.Sets.{sizeOf, positionByte, setByte, space, delete}
 use Rattle.paper.specs.Starting.{latin, greek}
@@ -41,8 +41,12 @@ abbrev pub Mapped : Set → Type 0
 Mapped x = (x ≡ latin) ⊎ (x ≡ greek)
 
 mapped-by : (n : Count) (k : Kind) (f b u : ℕ) → numberBy n k f b ≡ Numbered.Number u → Mapped (record { kind = k; count = n; last = f })
-mapped-by Count.One Of94 f b u e = inl (λ i. record { kind = Of94; count = Count.One; last = eqb-true f (latin .last) (named (eqb f (latin .last)) (Numbered.Number b) u e) i })
-mapped-by Count.One Of96 f b u e = inr (λ i. record { kind = Of96; count = Count.One; last = eqb-true f (greek .last) (named (eqb f (greek .last)) (greekNumber (bit8 + b)) u e) i })
+mapped-by Count.One Of94 f b u e =
+    let last = eqb-true f (latin .last) (named (eqb f (latin .last)) (Numbered.Number b) u e) in
+    inl (λ i. record { kind = Of94; count = Count.One; last = last i })
+mapped-by Count.One Of96 f b u e =
+    let last = eqb-true f (greek .last) (named (eqb f (greek .last)) (greekNumber (bit8 + b)) u e) in
+    inr (λ i. record { kind = Of96; count = Count.One; last = last i })
 mapped-by Count.Two k f b u e = impossible (cc)
 mapped-by Count.Three k f b u e = impossible (cc)
 
@@ -83,7 +87,8 @@ found x b u e =
     let s = stands x b u e in
     let low = s .low in
     let high = s .high in
-    rw e at (agree (λ b. again x b (numberIn x b)) (λ b. Located.At x (positionOf b)) (sizeOf Of96) space (mapped-again x (s .mapped)) b low (omega arith))
+    let alike = mapped-again x (s .mapped) in
+    rw e at (agree (λ b. again x b (numberIn x b)) (λ b. Located.At x (positionOf b)) (sizeOf Of96) space alike b low (omega arith))
 
 -- more than one byte has no number
 pub one-byte : (x : Set) (n : Count) (c : Column) (r : Row) (u : ℕ) → unicodeOf x n c r ≡ Numbered.Number u → n ≡ Count.One
@@ -92,11 +97,13 @@ one-byte x Count.Two c r u e = impossible (cc)
 one-byte x Count.Three c r u e = impossible (cc)
 
 -- the theorem, over every set, every number of position bytes and every position
-made-there : (x : Set) (c : Column) (r : Row) (u : ℕ) (m : Made) → byteAt c r ≡ m → numberMade x m ≡ Numbered.Number u → locate u ≡ Located.At x (record { column = c; row = r })
+made-there : (x : Set) (c : Column) (r : Row) (u : ℕ) (m : Made) → byteAt c r ≡ m → numberMade x m ≡ Numbered.Number u →
+    locate u ≡ Located.At x (record { column = c; row = r })
 made-there x c r u (Made.Byte b) p e = found x b u e ∙ ap (Located.At x) (apart-again c r b p)
 made-there x c r u Made.NoPosition p e = impossible (cc)
 
-pub there-and-back : (x : Set) (n : Count) (c : Column) (r : Row) (u : ℕ) → unicodeOf x n c r ≡ Numbered.Number u → locate u ≡ Located.At x (record { column = c; row = r })
+pub there-and-back : (x : Set) (n : Count) (c : Column) (r : Row) (u : ℕ) →
+    unicodeOf x n c r ≡ Numbered.Number u → locate u ≡ Located.At x (record { column = c; row = r })
 there-and-back x n c r u e = made-there x c r u (byteAt c r) refl (rw (one-byte x n c r u e) at e)
 
 -- so no two positions share a number, within a set or across the two

@@ -1,6 +1,5 @@
 -- Elements: C0, C1, G0 to G3. A set is its size and its Final Byte F.
 use Prim.Native.Nat.{ℕ}
-use mathlib.Core.Bool.{Bool}
 use lib.Dec.{eqb}
 use Rattle.paper.specs.Choice.{_gives_or_, between}
 use Rattle.paper.specs.Words.{ControlElement, Element, G0, G1, G2, G3, Kind, Of94, Of96, Count, Set, Sets, SetByte, OfSpace, OfDelete, OfSet, Outside}

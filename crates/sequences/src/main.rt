@@ -6,11 +6,9 @@
 // place in the list LS0 to LS3, LS1R to LS3R, SS2, SS3; 7 other; 8 refused, then 4: no meaning. Each sequence stands on one
 // line, so a difference at any of them shows.
 use paper::ControlElement;
-use paper::Count;
 use paper::Element;
 use paper::Form;
 use paper::Intermediates;
-use paper::Kind;
 use paper::Meaning;
 use paper::SequenceByte;
 use paper::Shift;

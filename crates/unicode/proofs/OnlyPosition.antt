@@ -1,18 +1,13 @@
 -- Each mapped set has one position byte that can have a number, so looking there finds what the search of both sets finds.
-use Prim.Native.Nat.{ℕ, _+_, _-_, _%_, _≤_, _<_}
-use mathlib.Core.Path.{_≡_, refl, _∙_, sym, ap}
+use Prim.Native.Nat.{ℕ, _%_}
+use mathlib.Core.Path.{_≡_, refl, _∙_, sym}
 use mathlib.Core.Logic.{⊎-elim}
 use mathlib.Core.Bool.{Bool, true, false}
 use mathlib.Core.List.{map}
 use native.Mathlib.Omega.{arith}
 use borrow.Author.Tests.{eq-eqb}
-use lib.Dec.{eqb}
-use Rattle.paper.specs.Choice.{_gives_or_, between, numbers}
-use Rattle.paper.specs.declared.Column.{Column}
-use Rattle.paper.specs.declared.Row.{Row}
-use Rattle.paper.specs.declared.Position.{Position}
+use Rattle.paper.specs.Choice.{_gives_or_, between}
 use Rattle.paper.specs.declared.Made.{Made}
-use Rattle.paper.specs.declared.Count.{Count}
 use Rattle.paper.specs.declared.Kind.the-variants.{Of96}
 use Rattle.paper.specs.declared.Set.{Set}
 use Rattle.paper.specs.declared.Numbered.{Numbered}

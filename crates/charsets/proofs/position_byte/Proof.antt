@@ -5,4 +5,12 @@ use Rattle.charsets.proofs.position_byte.Statement.{statement}
 use Rattle.charsets.proofs.position_byte.Tie as tie
 
 pub position-byte-spec : {M : Type 1} → statement M
-position-byte-spec = tie.close (tie.spec (λ c. search needs) (λ c. search (tests, c .before .enum-told .given .1)) (λ c. search (tests, c .before .before .enum-told .given .1)) (λ c. search needs) (λ c. search (tests, c .before .before .enum-told .given .1)) (λ c. search needs))
+position-byte-spec =
+    tie.close
+    (tie.spec
+    (λ c. search needs)
+    (λ c. search (tests, c .before .enum-told .given .1))
+    (λ c. search (tests, c .before .before .enum-told .given .1))
+    (λ c. search needs)
+    (λ c. search (tests, c .before .before .enum-told .given .1))
+    (λ c. search needs))

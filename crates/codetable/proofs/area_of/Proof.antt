@@ -4,4 +4,9 @@ use Rattle.codetable.proofs.area_of.Statement.{statement}
 use Rattle.codetable.proofs.area_of.Tie as tie
 
 pub area-of-spec : {M : Type 1} → statement M
-area-of-spec = tie.close (tie.spec (λ c κs. search needs) (λ c κs. search needs) (λ c. simp (c .before .before .position-of .ensures, c .column-area .ensures)))
+area-of-spec =
+    tie.close
+    (tie.spec
+    (λ c κs. search needs)
+    (λ c κs. search needs)
+    (λ c. simp (c .before .before .position-of .ensures, c .column-area .ensures)))

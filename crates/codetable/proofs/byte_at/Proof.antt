@@ -7,4 +7,11 @@ use Rattle.codetable.proofs.byte_at.Tie as tie
 
 pub byte-at-spec : {M : Type 1} → statement M
 unfolding byteAt
-byte-at-spec = tie.close (tie.spec (λ c. search needs) (λ c. search needs) (λ c. search tests) (λ c. search tests) (λ c. search tests))
+byte-at-spec =
+    tie.close
+    (tie.spec
+    (λ c. search needs)
+    (λ c. search needs)
+    (λ c. search tests)
+    (λ c. search tests)
+    (λ c. search tests))

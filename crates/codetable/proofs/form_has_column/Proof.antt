@@ -6,4 +6,10 @@ use Rattle.codetable.proofs.form_has_column.Tie as tie
 
 pub form-has-column-spec : {M : Type 1} → statement M
 unfolding formHasColumn
-form-has-column-spec = tie.close (tie.spec (λ c. search needs) (λ c. search needs) (λ c. simp (c .before .enum-told .given .1)) (λ c. simp (c .enum-told2 .given .1)))
+form-has-column-spec =
+    tie.close
+    (tie.spec
+    (λ c. search needs)
+    (λ c. search needs)
+    (λ c. simp (c .before .enum-told .given .1))
+    (λ c. simp (c .enum-told2 .given .1)))

@@ -6,4 +6,10 @@ use Rattle.escapes.proofs.c1_function.Tie as tie
 
 pub c1-function-spec : {M : Type 1} → statement M
 unfolding c1Function
-c1-function-spec = tie.close (tie.spec (λ c. simp (c .match .keys1)) (λ c. simp (c .match .keys2)) (λ c. search tests) (λ c. search tests))
+c1-function-spec =
+    tie.close
+    (tie.spec
+    (λ c. simp (c .match .keys1))
+    (λ c. simp (c .match .keys2))
+    (λ c. search tests)
+    (λ c. search tests))

@@ -7,4 +7,9 @@ use Rattle.escapes.proofs.meaning_of_one.Tie as tie
 pub meaning-of-one-spec : {M : Type 1} → statement M
 unfolding meaningOfOne
 meaning-of-one-spec =
-    tie.close (tie.spec (λ c κs. search needs) (λ c κs. search needs) (λ c. simp (← c .before .before .between .ensures, c .before .if1 .taken, c .by-intermediate .ensures)) (λ c. simp (← c .before .between .ensures, c .if1 .left)))
+    tie.close
+    (tie.spec
+    (λ c κs. search needs)
+    (λ c κs. search needs)
+    (λ c. simp (← c .before .before .between .ensures, c .before .if1 .taken, c .by-intermediate .ensures))
+    (λ c. simp (← c .before .between .ensures, c .if1 .left)))

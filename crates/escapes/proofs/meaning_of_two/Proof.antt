@@ -7,4 +7,9 @@ use Rattle.escapes.proofs.meaning_of_two.Tie as tie
 
 pub meaning-of-two-spec : {M : Type 1} → statement M
 unfolding meaningOfTwo
-meaning-of-two-spec = tie.close (tie.spec (λ c κs. search needs) (λ c. search (tests, c .several-bytes .ensures)) (λ c. search tests))
+meaning-of-two-spec =
+    tie.close
+    (tie.spec
+    (λ c κs. search needs)
+    (λ c. search (tests, c .several-bytes .ensures))
+    (λ c. search tests))

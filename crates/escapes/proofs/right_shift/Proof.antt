@@ -4,4 +4,10 @@ use Rattle.escapes.proofs.right_shift.Statement.{statement}
 use Rattle.escapes.proofs.right_shift.Tie as tie
 
 pub right-shift-spec : {M : Type 1} → statement M
-right-shift-spec = tie.close (tie.spec (λ c. search needs) (λ c. search needs) (λ c. search needs) (λ c. simp (c .enum-told2 .given .1)))
+right-shift-spec =
+    tie.close
+    (tie.spec
+    (λ c. search needs)
+    (λ c. search needs)
+    (λ c. search needs)
+    (λ c. simp (c .enum-told2 .given .1)))

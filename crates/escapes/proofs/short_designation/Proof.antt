@@ -6,4 +6,9 @@ use Rattle.escapes.proofs.short_designation.Tie as tie
 
 pub short-designation-spec : {M : Type 1} → statement M
 unfolding shortDesignation
-short-designation-spec = tie.close (tie.spec (λ c κs. search needs) (λ c. simp (← c .before .between .ensures, c .if1 .taken)) (λ c. simp (← c .before .between .ensures, c .if1 .left)))
+short-designation-spec =
+    tie.close
+    (tie.spec
+    (λ c κs. search needs)
+    (λ c. simp (← c .before .between .ensures, c .if1 .taken))
+    (λ c. simp (← c .before .between .ensures, c .if1 .left)))

@@ -8,4 +8,12 @@ use Rattle.unicode.proofs.greek_byte.Tie as tie
 pub greek-byte-spec : {M : Type 1} → statement M
 unfolding greekByte
 greek-byte-spec =
-    tie.close (tie.spec (λ c. search needs) (λ c. search needs) (λ c. simp (c .match .keys1)) (λ c. simp (c .match .keys2)) (λ c. simp (c .match .keys3)) (λ c. search tests) (λ c. search tests))
+    tie.close
+    (tie.spec
+    (λ c. search needs)
+    (λ c. search needs)
+    (λ c. simp (c .match .keys1))
+    (λ c. simp (c .match .keys2))
+    (λ c. simp (c .match .keys3))
+    (λ c. search tests)
+    (λ c. search tests))

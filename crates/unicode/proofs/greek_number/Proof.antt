@@ -8,4 +8,10 @@ use Rattle.unicode.proofs.greek_number.Tie as tie
 pub greek-number-spec : {M : Type 1} → statement M
 greek-number-spec =
     tie.close
-    (tie.spec (λ c. search needs) (λ c. search needs) (λ c. search needs) (λ c. search needs) (λ c κs. search needs) (λ c. c .entry-of .ensures ∙ entry-at (c .before .args .byte) (c .before .pre .0) (c .before .pre .1)))
+    (tie.spec
+    (λ c. search needs)
+    (λ c. search needs)
+    (λ c. search needs)
+    (λ c. search needs)
+    (λ c κs. search needs)
+    (λ c. c .entry-of .ensures ∙ entry-at (c .before .args .byte) (c .before .pre .0) (c .before .pre .1)))
