@@ -8,6 +8,7 @@ pub mod OpeningMakesTheStart
 pub mod FilledPositions
 pub mod ThereAndBack
 pub mod BackAndThere
+pub mod NumbersTellAnswersApart
 pub mod ExamplesOfPositions
 pub mod ExamplesOfSequences
 pub mod ExamplesOfNumbers
