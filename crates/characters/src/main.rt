@@ -1,5 +1,6 @@
 // Prints every position that has a Unicode number, asked of every set of every size and Final Byte, with every number of
-// position bytes, every column and every row; then every Unicode number that stands somewhere, asked of all of them.
+// position bytes, columns and rows 0 to 19; then every Unicode number that stands somewhere, asked of all of Unicode and as
+// many numbers above.
 //
 // A line of the first part is the set's kind, its number of bytes, its Final Byte, the column, the row and the number; of
 // the second the number, then the same. Final Bytes and numbers are in hex. A line after each part counts what was asked,
@@ -52,10 +53,10 @@ fn there(set: Set, count: Count, column: Column, row: Row) {
     }
 }
 
-fn rows(set: Set, count: Count, column: u8) -> u32 {
+fn rows(set: Set, count: Count, column: Column) -> u32 {
     let mut asked: u32 = 0;
     for row in 0u8..PAST {
-        there(set, count, Column(column), Row(row));
+        there(set, count, column, Row(row));
         asked = wrapping_add_u32(asked, 1);
     }
     asked
@@ -64,7 +65,7 @@ fn rows(set: Set, count: Count, column: u8) -> u32 {
 fn columns(set: Set, count: Count) -> u32 {
     let mut asked: u32 = 0;
     for column in 0u8..PAST {
-        asked = wrapping_add_u32(asked, rows(set, count, column));
+        asked = wrapping_add_u32(asked, rows(set, count, Column(column)));
     }
     asked
 }
@@ -111,7 +112,7 @@ fn back(number: u32) {
     }
 }
 
-// All numbers of Unicode, 0 to 10FFFF, and as many above.
+// All numbers of Unicode, 0 to 10FFFF, and as many above it.
 fn numbers() -> u32 {
     let mut asked: u32 = 0;
     for number in 0u32..0x220000 {

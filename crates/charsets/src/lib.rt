@@ -69,7 +69,7 @@ pub fn starting_sets() -> Sets
     }
 }
 
-// How many positions a byte of a set of a kind has.
+// The positions that one byte of a set of this kind can take.
 pub fn size_of(kind: Kind) -> u8
     ensures { λ r. ⌜ r ≡ sizeOf kind ⌝ }
 {
@@ -108,7 +108,7 @@ fn position_byte(kind: Kind, byte: u8) -> SetByte
     }
 }
 
-// What a position byte is to a set of a kind.
+// What a byte, taken as a position byte, is to a set of a kind.
 pub fn set_byte(kind: Kind, byte: u8) -> SetByte
     ensures { λ r. ⌜ r ≡ setByte kind byte ⌝ }
 {

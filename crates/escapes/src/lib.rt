@@ -12,22 +12,30 @@ use paper::Shift;
 ghost use mathlib.Core.Path.{_≡_};
 ghost use Rattle.paper.specs.Sequences.{sequenceByte, c1Function, rightShift, shiftOrOther, meaningOfNone, designation, shortDesignation, byIntermediate, meaningOfOne, severalBytes, meaningOfTwo, meaningOf};
 
-// A final is 3/0 to 7/14.
+// An intermediate is of column 2, a final is 3/0 to 7/14.
+const FIRST_INTERMEDIATE: u8 = 0x20;
+
+const LAST_INTERMEDIATE: u8 = 0x2F;
+
 const FIRST_FINAL: u8 = 0x30;
 
 const LAST_FINAL: u8 = 0x7E;
 
-// The C1 functions are numbered 0 to 31.
+// The C1 functions are numbered 0 to 31; two of them are the single shifts.
 const LAST_FUNCTION: u8 = 31;
+
+const SINGLE_SHIFT_TWO: u8 = 14;
+
+const SINGLE_SHIFT_THREE: u8 = 15;
 
 // The intermediate that leads to sets of several bytes.
 const SEVERAL: u8 = 0x24;
 
-// What a byte is inside a sequence: it goes on, it ends, or the byte may not stand there.
+// What a byte is inside a sequence: the sequence goes on with it, ends with it, or the byte may not stand there.
 pub fn sequence_byte(byte: u8) -> SequenceByte
     ensures { λ r. ⌜ r ≡ sequenceByte byte ⌝ }
 {
-    if between(0x20, 0x2F, byte) {
+    if between(FIRST_INTERMEDIATE, LAST_INTERMEDIATE, byte) {
         return SequenceByte::Intermediate;
     }
     if between(FIRST_FINAL, LAST_FINAL, byte) {
@@ -36,13 +44,13 @@ pub fn sequence_byte(byte: u8) -> SequenceByte
     SequenceByte::Neither
 }
 
-// The C1 function 0 to 31, of which 14 and 15 are the single shifts.
+// What a C1 function means, by its number.
 pub fn c1_function(number: u8) -> Meaning
     ensures { λ r. ⌜ r ≡ c1Function number ⌝ }
 {
     match number {
-        14 => Meaning::Shifts(Shift::SS2),
-        15 => Meaning::Shifts(Shift::SS3),
+        SINGLE_SHIFT_TWO => Meaning::Shifts(Shift::SS2),
+        SINGLE_SHIFT_THREE => Meaning::Shifts(Shift::SS3),
         _ => {
             if number <= LAST_FUNCTION {
                 Meaning::Function(number)
@@ -81,13 +89,13 @@ fn shift_or_other(form: Form, last: u8) -> Meaning
 fn meaning_of_none(form: Form, last: u8) -> Meaning
     ensures { λ r. ⌜ r ≡ meaningOfNone form last ⌝ }
 {
-    if between(0x30, 0x3F, last) {
+    if between(FIRST_FINAL, 0x3F, last) {
         return Meaning::Other;
     }
     if between(0x40, 0x5F, last) {
         return c1_function(last - 0x40);
     }
-    if between(0x60, 0x7E, last) {
+    if between(0x60, LAST_FINAL, last) {
         return shift_or_other(form, last);
     }
     Meaning::NoMeaning

@@ -60,10 +60,10 @@ answers-say = refl
 pub shifts-in-order : map shiftNumber (LS0 ∷ LS1 ∷ LS2 ∷ LS3 ∷ LS1R ∷ LS2R ∷ LS3R ∷ SS2 ∷ SS3 ∷ []) ≡ numbers 9 0
 shifts-in-order = refl
 
-pub conversions-return :
-    map returnedConversion (Converted.Done 5 ∷ Converted.Refused Refusal.NotOfSequence 2 ∷ []) ≡
-    record { refusal = 0; values = 0 ∷ 5 ∷ [] } ∷ record { refusal = 2; values = 2 ∷ 0 ∷ [] } ∷ []
-conversions-return = refl
+pub conversions-return : (n : ℕ) (r : Refusal) (at : ℕ) →
+    map returnedConversion (Converted.Done n ∷ Converted.Refused r at ∷ []) ≡
+    record { refusal = 0; values = 0 ∷ n ∷ [] } ∷ record { refusal = numberOf r; values = at ∷ 0 ∷ [] } ∷ []
+conversions-return n r at = refl
 
 pub end-words-in-order : map endOf (EndWord.Whole ∷ EndWord.Inside ∷ EndWord.Lost ∷ []) ≡ numbers 3 0
 end-words-in-order = refl

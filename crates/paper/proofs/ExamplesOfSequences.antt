@@ -4,10 +4,10 @@ use Prim.Native.Nat.{ℕ}
 use mathlib.Core.Path.{_≡_, refl}
 use mathlib.Core.List.{List, [], _∷_, map}
 use Rattle.paper.specs.Choice.{between}
-use Rattle.paper.specs.Words.{Form, Seven, Eight, ControlElement, G0, G1, G2, G3, Of94, Of96, Count, Intermediate, Final, Neither, Intermediates, Shift, LS0, LS1, LS2, LS3, LS1R, LS2R, LS3R, SS2, SS3, Meaning, NoMeaning, Function, Shifts}
-use Rattle.paper.specs.Sequences.{sequenceByte, c1Function, shiftOrOther, designation, shortDesignation, severalBytes, meaningOfNone, byIntermediate, meaningOfOne, meaningOfTwo, meaningOf, sequenceAnswer, glAfter, grAfter}
-use Rattle.paper.specs.Starting.{startingSets}
-use Rattle.paper.specs.Results.{wordOf, valuesOf}
+use Rattle.paper.specs.Words.{Form, Seven, Eight, ControlElement, Element, G0, G1, G2, G3, Kind, Of94, Of96, Count, Sets, Intermediate, Final, Neither, Intermediates, Shift, LS0, LS1, LS2, LS3, LS1R, LS2R, LS3R, SS2, SS3, Meaning, NoMeaning, Function, Shifts}
+use Rattle.paper.specs.Sequences.{sequenceByte, c1Function, shiftOrOther, designation, shortDesignation, severalBytes, meaningOfNone, byIntermediate, meaningOfOne, meaningOfTwo, meaningOf, sequenceAnswer, setsAfter, glAfter, grAfter}
+use Rattle.paper.specs.Sets.{sizeOf, bytesOf, designated, designatedControls}
+use Rattle.paper.specs.Results.{controlElementNumber, elementNumber, shiftNumber, wordOf, valuesOf}
 
 -- the bytes after ESC and what they mean
 pub record Example : Type 0 where
@@ -92,27 +92,34 @@ bytes-of-sequences = refl
 abbrev shifts : List Shift
 shifts = LS0 ∷ LS1 ∷ LS2 ∷ LS3 ∷ LS1R ∷ LS2R ∷ LS3R ∷ SS2 ∷ SS3 ∷ []
 
--- LS0 to LS3 into GL, LS1R to LS3R into GR, and no other
-pub shifts-show :
-    (map (λ h. glAfter h G1) shifts ≡ G0 ∷ G1 ∷ G2 ∷ G3 ∷ G1 ∷ G1 ∷ G1 ∷ G1 ∷ G1 ∷ []) ×
-    (map (λ h. grAfter h G0) shifts ≡ G0 ∷ G0 ∷ G0 ∷ G0 ∷ G1 ∷ G2 ∷ G3 ∷ G0 ∷ G0 ∷ [])
-shifts-show = (refl, refl)
+-- LS0 to LS3 into GL, LS1R to LS3R into GR; what else was shown stays
+pub shifts-show : (e : Element) →
+    (map (glAfter e) shifts ≡ G0 ∷ G1 ∷ G2 ∷ G3 ∷ e ∷ e ∷ e ∷ e ∷ e ∷ []) ×
+    (map (grAfter e) shifts ≡ e ∷ e ∷ e ∷ e ∷ G1 ∷ G2 ∷ G3 ∷ e ∷ e ∷ [])
+shifts-show e = (refl, refl)
 
--- what the final of ESC 2/4 2/11 6/0 answers under each meaning, by the paper's words and values
-abbrev meanings : List Meaning
-meanings =
-    NoMeaning ∷ Meaning.Other ∷ Function 5 ∷ Shifts SS3 ∷ Meaning.DesignateControls ControlElement.C1 ∷ Meaning.Designate G3 Of94 Count.Three ∷ []
+-- a meaning of each sort, at any sets and any sequence with two intermediates
+module _ (t : Sets) (i j f n : ℕ) (h : Shift) (w : ControlElement) (e : Element) (k : Kind) (c : Count) where
+  abbrev meanings : List Meaning
+  meanings = NoMeaning ∷ Meaning.Other ∷ Function n ∷ Shifts h ∷ Meaning.DesignateControls w ∷ Meaning.Designate e k c ∷ []
 
-abbrev answer : Meaning → List ℕ
-answer m = let a = sequenceAnswer m startingSets (Intermediates.Two 0x24 0x2B) 0x60 in wordOf a ∷ valuesOf a
+  abbrev answered : Meaning → List ℕ
+  answered m = let a = sequenceAnswer t m (Intermediates.Two i j) f in wordOf a ∷ valuesOf a
 
-pub sequences-answer :
-    map answer meanings ≡
-    (8 ∷ 4 ∷ []) ∷
-    (7 ∷ 0x24 ∷ 0x2B ∷ 0x60 ∷ []) ∷
-    (4 ∷ 1 ∷ 0x43 ∷ 5 ∷ []) ∷
-    (6 ∷ 8 ∷ []) ∷
-    (5 ∷ 1 ∷ 32 ∷ 0x60 ∷ []) ∷
-    (5 ∷ 5 ∷ 94 ∷ 3 ∷ 0x60 ∷ []) ∷
-    []
-sequences-answer = refl
+  -- what the final answers, by the paper's words and values
+  pub sequences-answer :
+      map answered meanings ≡
+      (8 ∷ 4 ∷ []) ∷
+      (7 ∷ i ∷ j ∷ f ∷ []) ∷
+      (4 ∷ 1 ∷ t .c1 ∷ n ∷ []) ∷
+      (6 ∷ shiftNumber h ∷ []) ∷
+      (5 ∷ controlElementNumber w ∷ 32 ∷ f ∷ []) ∷
+      (5 ∷ elementNumber e ∷ sizeOf k ∷ bytesOf c ∷ f ∷ []) ∷
+      []
+  sequences-answer = refl
+
+  -- what it leaves: only a designation changes the sets
+  pub sequences-leave :
+      map (λ m. setsAfter t m f) meanings ≡
+      t ∷ t ∷ t ∷ t ∷ designatedControls t w f ∷ designated t e (record { kind = k; count = c; last = f }) ∷ []
+  sequences-leave = refl

@@ -5,7 +5,7 @@ use mathlib.Core.List.{List, [], _∷_}
 use lib.Dec.{leb, eqb}
 use Rattle.paper.specs.Choice.{between}
 use Rattle.paper.specs.Words.{Form, Seven, Eight, Of94, Count, Sets, Intermediates, Shift, LS1R, LS2R, LS3R, Meaning}
-use Rattle.paper.specs.Sequences.{isFinal, c1Function, rightShift, shiftOrOther, meaningOfNone, designation, shortDesignation, byIntermediate, meaningOfOne, severalBytes, meaningOfTwo, meaningOf, setsAfter}
+use Rattle.paper.specs.Sequences.{firstFinal, lastFinal, isFinal, several, c1Function, rightShift, shiftOrOther, meaningOfNone, designation, shortDesignation, byIntermediate, meaningOfOne, severalBytes, meaningOfTwo, meaningOf, setsAfter}
 use Rattle.paper.specs.Starting.{startingSets}
 use Rattle.paper.proofs.Choices.{gives-has}
 
@@ -34,8 +34,8 @@ keeps-shift m f =
 keeps-none : (m : Form) (f : ℕ) → Keeps (meaningOfNone m f)
 unfolding meaningOfNone
 keeps-none m f =
-    gives-has Keeps (between 0x30 0x3F f) (λ t f h. h)
-    (gives-has Keeps (between 0x40 0x5F f) (keeps-function (f - 0x40)) (gives-has Keeps (between 0x60 0x7E f) (keeps-shift m f) (λ t f h. h)))
+    gives-has Keeps (between firstFinal 0x3F f) (λ t f h. h)
+    (gives-has Keeps (between 0x40 0x5F f) (keeps-function (f - 0x40)) (gives-has Keeps (between 0x60 lastFinal f) (keeps-shift m f) (λ t f h. h)))
 
 keeps-designation : (i : ℕ) (n : Count) → Keeps (designation i n)
 unfolding designation
@@ -58,7 +58,7 @@ keeps-by i f =
     (gives-has Keeps (eqb i 0x23) (λ t f h. h)
     (gives-has Keeps (eqb i 0x26) (λ t f h. h)
     (gives-has Keeps (eqb i 0x21) (λ t f h. h)
-    (gives-has Keeps (eqb i 0x22) (λ t f h. h) (gives-has Keeps (eqb i 0x24) (keeps-short f) (keeps-designation i Count.One))))))
+    (gives-has Keeps (eqb i 0x22) (λ t f h. h) (gives-has Keeps (eqb i several) (keeps-short f) (keeps-designation i Count.One))))))
 
 keeps-several : (j f : ℕ) → Keeps (severalBytes j f)
 unfolding severalBytes
@@ -70,7 +70,7 @@ keeps : (m : Form) (s : Intermediates) (f : ℕ) → Keeps (meaningOf m s f)
 unfolding meaningOfOne meaningOfTwo
 keeps m Intermediates.None f = keeps-none m f
 keeps m (Intermediates.One i) f = gives-has Keeps (isFinal f) (keeps-by i f) (λ t f h. h)
-keeps m (Intermediates.Two i j) f = gives-has Keeps (eqb i 0x24) (keeps-several j f) (λ t f h. h)
+keeps m (Intermediates.Two i j) f = gives-has Keeps (eqb i several) (keeps-several j f) (λ t f h. h)
 
 -- the sets after any sequences, each its intermediates and its final
 pub record Sequence : Type 0 where

@@ -13,41 +13,41 @@ use Rattle.paper.specs.Results.{controlElementNumber, elementNumber, shi
 
 -- each thing from its number
 abbrev controlElementFrom : ℕ → ControlElement
-controlElementFrom n = eqb n 0 gives ControlElement.C0 or ControlElement.C1
+controlElementFrom n = eqb n (controlElementNumber ControlElement.C0) gives ControlElement.C0 or ControlElement.C1
 
 abbrev elementFrom : ℕ → Element
-elementFrom n = eqb n 2 gives G0 or eqb n 3 gives G1 or eqb n 4 gives G2 or G3
+elementFrom n = eqb n (elementNumber G0) gives G0 or eqb n (elementNumber G1) gives G1 or eqb n (elementNumber G2) gives G2 or G3
 
 abbrev kindFrom : ℕ → Kind
-kindFrom n = eqb n 94 gives Of94 or Of96
+kindFrom n = eqb n (sizeOf Of94) gives Of94 or Of96
 
 abbrev countFrom : ℕ → Count
-countFrom n = eqb n 1 gives Count.One or eqb n 2 gives Count.Two or Count.Three
+countFrom n = eqb n (bytesOf Count.One) gives Count.One or eqb n (bytesOf Count.Two) gives Count.Two or Count.Three
 
 abbrev shiftFrom : ℕ → Shift
 shiftFrom n =
-    eqb n 0 gives LS0 or
-    eqb n 1 gives LS1 or
-    eqb n 2 gives LS2 or
-    eqb n 3 gives LS3 or
-    eqb n 4 gives LS1R or
-    eqb n 5 gives LS2R or
-    eqb n 6 gives LS3R or
-    eqb n 7 gives SS2 or
+    eqb n (shiftNumber LS0) gives LS0 or
+    eqb n (shiftNumber LS1) gives LS1 or
+    eqb n (shiftNumber LS2) gives LS2 or
+    eqb n (shiftNumber LS3) gives LS3 or
+    eqb n (shiftNumber LS1R) gives LS1R or
+    eqb n (shiftNumber LS2R) gives LS2R or
+    eqb n (shiftNumber LS3R) gives LS3R or
+    eqb n (shiftNumber SS2) gives SS2 or
     SS3
 
 abbrev refusalFrom : ℕ → Refusal
 refusalFrom n =
-    eqb n 1 gives Refusal.ByteOfEightBits or
-    eqb n 2 gives Refusal.NotOfSequence or
-    eqb n 3 gives Refusal.ThirdIntermediate or
-    eqb n 4 gives Refusal.WithoutMeaning or
-    eqb n 5 gives Refusal.NotOfSet or
-    eqb n 6 gives Refusal.AnotherArea or
-    eqb n 7 gives Refusal.EndsInside or
-    eqb n 8 gives Refusal.TooLong or
-    eqb n 9 gives Refusal.BufferShort or
-    eqb n 10 gives Refusal.NoNumber or
+    eqb n (numberOf Refusal.ByteOfEightBits) gives Refusal.ByteOfEightBits or
+    eqb n (numberOf Refusal.NotOfSequence) gives Refusal.NotOfSequence or
+    eqb n (numberOf Refusal.ThirdIntermediate) gives Refusal.ThirdIntermediate or
+    eqb n (numberOf Refusal.WithoutMeaning) gives Refusal.WithoutMeaning or
+    eqb n (numberOf Refusal.NotOfSet) gives Refusal.NotOfSet or
+    eqb n (numberOf Refusal.AnotherArea) gives Refusal.AnotherArea or
+    eqb n (numberOf Refusal.EndsInside) gives Refusal.EndsInside or
+    eqb n (numberOf Refusal.TooLong) gives Refusal.TooLong or
+    eqb n (numberOf Refusal.BufferShort) gives Refusal.BufferShort or
+    eqb n (numberOf Refusal.NoNumber) gives Refusal.NoNumber or
     Refusal.NotMapped
 
 abbrev setFrom : ℕ → ℕ → ℕ → Set

@@ -1,5 +1,5 @@
 -- An opening is six designations and its shifts, byte by byte, and what these mean makes the starting state whatever the sets
--- were and whatever was shown; in 7-bit form GR is not touched.
+-- were and whatever was shown; in 7-bit form no shift reaches GR, which has shown G1 since the start.
 use Prim.Native.Nat.{ℕ}
 use mathlib.Core.Path.{_≡_, refl}
 use mathlib.Core.List.{List, [], _∷_}
@@ -33,7 +33,7 @@ opening-parts Eight = refl
 
 -- what a reader on the ground shows after a shift, and has after a sequence
 abbrev pub shown : Shift → Reader → Reader
-shown h r = record { form = r .form; sets = r .sets; gl = glAfter h (r .gl); gr = grAfter h (r .gr); standing = r .standing }
+shown h r = record { form = r .form; sets = r .sets; gl = glAfter (r .gl) h; gr = grAfter (r .gr) h; standing = r .standing }
 
 abbrev pub with : Sets → Reader → Reader
 with t r = record { form = r .form; sets = t; gl = r .gl; gr = r .gr; standing = r .standing }

@@ -13,15 +13,28 @@ use Rattle.paper.specs.Starting.{latin, greek}
 abbrev pub unused : List ℕ
 unused = 0xA4 ∷ 0xA5 ∷ 0xAA ∷ 0xAE ∷ 0xD2 ∷ 0xFF ∷ []
 
+abbrev pub leftQuote : ℕ
+leftQuote = 0x2018
+
+abbrev pub rightQuote : ℕ
+rightQuote = 0x2019
+
+abbrev pub bar : ℕ
+bar = 0x2015
+
+-- what a letter's number has more than its byte
+abbrev pub letters : ℕ
+letters = 0x2D0
+
 unfoldable pub greekNumber : ℕ → Numbered
 greekNumber b =
     oneOf unused b gives Numbered.NoNumber or
-    eqb b 0xA1 gives Numbered.Number 0x2018 or
-    eqb b 0xA2 gives Numbered.Number 0x2019 or
-    eqb b 0xAF gives Numbered.Number 0x2015 or
+    eqb b 0xA1 gives Numbered.Number leftQuote or
+    eqb b 0xA2 gives Numbered.Number rightQuote or
+    eqb b 0xAF gives Numbered.Number bar or
     between 0xA0 0xB3 b gives Numbered.Number b or
     oneOf (0xB7 ∷ 0xBB ∷ 0xBD ∷ []) b gives Numbered.Number b or
-    between 0xB4 0xFE b gives Numbered.Number (b + 0x2D0) or
+    between 0xB4 0xFE b gives Numbered.Number (b + letters) or
     Numbered.NoNumber
 
 -- what stands at a position of a set, or no number where the byte is no position of it

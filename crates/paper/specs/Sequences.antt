@@ -9,8 +9,14 @@ use Rattle.paper.specs.Sets.{designated, designatedControls}
 abbrev pub isIntermediate : ℕ → Bool
 isIntermediate b = between 0x20 0x2F b
 
+abbrev pub firstFinal : ℕ
+firstFinal = 0x30
+
+abbrev pub lastFinal : ℕ
+lastFinal = 0x7E
+
 abbrev pub isFinal : ℕ → Bool
-isFinal b = between 0x30 0x7E b
+isFinal b = between firstFinal lastFinal b
 
 -- which byte continues a sequence, ends it, or may not stand in it
 unfoldable pub sequenceByte : ℕ → SequenceByte
@@ -45,9 +51,9 @@ shiftOrOther m f =
 -- ESC F
 unfoldable pub meaningOfNone : Form → ℕ → Meaning
 meaningOfNone m f =
-    between 0x30 0x3F f gives Meaning.Other or
+    between firstFinal 0x3F f gives Meaning.Other or
     between 0x40 0x5F f gives c1Function (f - 0x40) or
-    between 0x60 0x7E f gives shiftOrOther m f or
+    between 0x60 lastFinal f gives shiftOrOther m f or
     NoMeaning
 
 -- 2/8 to 2/11: a 94 set into G0 to G3; 2/13 to 2/15: a 96 set into G1 to G3
@@ -62,6 +68,10 @@ designation i n =
     eqb i 0x2F gives Meaning.Designate G3 Of96 n or
     NoMeaning
 
+-- the intermediate that leads to sets of several bytes
+abbrev pub several : ℕ
+several = 0x24
+
 -- ESC 2/4 F, F 4/0 to 4/2: a 94 set of 2 bytes into G0
 unfoldable pub shortDesignation : ℕ → Meaning
 shortDesignation f = between 0x40 0x42 f gives Meaning.Designate G0 Of94 Count.Two or NoMeaning
@@ -74,7 +84,7 @@ byIntermediate i f =
     eqb i 0x26 gives Meaning.Other or
     eqb i 0x21 gives Meaning.DesignateControls ControlElement.C0 or
     eqb i 0x22 gives Meaning.DesignateControls ControlElement.C1 or
-    eqb i 0x24 gives shortDesignation f or
+    eqb i several gives shortDesignation f or
     designation i Count.One
 
 unfoldable pub meaningOfOne : ℕ → ℕ → Meaning
@@ -89,7 +99,7 @@ severalBytes j f =
 
 -- ESC I I F
 unfoldable pub meaningOfTwo : ℕ → ℕ → ℕ → Meaning
-meaningOfTwo i j f = eqb i 0x24 gives severalBytes j f or NoMeaning
+meaningOfTwo i j f = eqb i several gives severalBytes j f or NoMeaning
 
 -- the table; every other sequence has no meaning
 abbrev pub meaningOf : Form → Intermediates → ℕ → Meaning
@@ -98,13 +108,13 @@ meaningOf m (Intermediates.One i) f = meaningOfOne i f
 meaningOf m (Intermediates.Two i j) f = meaningOfTwo i j f
 
 -- what the final answers: other with its bytes, the C1 function with C1's set, no meaning refused
-abbrev pub sequenceAnswer : Meaning → Sets → Intermediates → ℕ → Answer
-sequenceAnswer NoMeaning t s f = Answer.Refused Refusal.WithoutMeaning
-sequenceAnswer Meaning.Other t s f = Answer.Other s f
-sequenceAnswer (Function n) t s f = Answer.Control ControlElement.C1 (t .c1) n
-sequenceAnswer (Shifts h) t s f = Answer.Shift h
-sequenceAnswer (Meaning.DesignateControls w) t s f = Answer.DesignateControls w f
-sequenceAnswer (Meaning.Designate e k n) t s f = Answer.Designate e (record { kind = k; count = n; last = f })
+abbrev pub sequenceAnswer : Sets → Meaning → Intermediates → ℕ → Answer
+sequenceAnswer t NoMeaning s f = Answer.Refused Refusal.WithoutMeaning
+sequenceAnswer t Meaning.Other s f = Answer.Other s f
+sequenceAnswer t (Function n) s f = Answer.Control ControlElement.C1 (t .c1) n
+sequenceAnswer t (Shifts h) s f = Answer.Shift h
+sequenceAnswer t (Meaning.DesignateControls w) s f = Answer.DesignateControls w f
+sequenceAnswer t (Meaning.Designate e k n) s f = Answer.Designate e (record { kind = k; count = n; last = f })
 
 -- a designation takes effect at its final byte; nothing else changes the sets
 abbrev pub setsAfter : Sets → Meaning → ℕ → Sets
@@ -116,24 +126,24 @@ setsAfter t (Meaning.DesignateControls w) f = designatedControls t w f
 setsAfter t (Meaning.Designate e k n) f = designated t e (record { kind = k; count = n; last = f })
 
 -- LS0 to LS3: G0 to G3 into GL; LS1R to LS3R: G1 to G3 into GR
-abbrev pub glAfter : Shift → Element → Element
-glAfter LS0 e = G0
-glAfter LS1 e = G1
-glAfter LS2 e = G2
-glAfter LS3 e = G3
-glAfter LS1R e = e
-glAfter LS2R e = e
-glAfter LS3R e = e
-glAfter SS2 e = e
-glAfter SS3 e = e
+abbrev pub glAfter : Element → Shift → Element
+glAfter e LS0 = G0
+glAfter e LS1 = G1
+glAfter e LS2 = G2
+glAfter e LS3 = G3
+glAfter e LS1R = e
+glAfter e LS2R = e
+glAfter e LS3R = e
+glAfter e SS2 = e
+glAfter e SS3 = e
 
-abbrev pub grAfter : Shift → Element → Element
-grAfter LS0 e = e
-grAfter LS1 e = e
-grAfter LS2 e = e
-grAfter LS3 e = e
-grAfter LS1R e = G1
-grAfter LS2R e = G2
-grAfter LS3R e = G3
-grAfter SS2 e = e
-grAfter SS3 e = e
+abbrev pub grAfter : Element → Shift → Element
+grAfter e LS0 = e
+grAfter e LS1 = e
+grAfter e LS2 = e
+grAfter e LS3 = e
+grAfter e LS1R = G1
+grAfter e LS2R = G2
+grAfter e LS3R = G3
+grAfter e SS2 = e
+grAfter e SS3 = e

@@ -77,7 +77,7 @@ pub struct Sets {
     pub g3: Set,
 }
 
-// What a 7-bit byte is to a set: SPACE, DELETE, a position of the set, or outside.
+// What a byte, taken as a position byte, is to a set: SPACE, DELETE, a position of the set, or outside.
 pub enum SetByte {
     OfSpace,
     OfDelete,

@@ -90,11 +90,11 @@ fn lines() {
 }
 
 // The byte that a column and a row make, where they make one.
-fn print_made(column: u8, row: u8) {
-    match codetable::byte_at(Column(column), Row(row)) {
+fn print_made(column: Column, row: Row) {
+    match codetable::byte_at(column, row) {
         Made::Byte(byte) => {
-            io::print_decimal(1, column as u64);
-            print_decimal(row);
+            io::print_decimal(1, column.0 as u64);
+            print_decimal(row.0);
             print_hex(byte);
             io::write_all(1, b"\n");
         }
@@ -102,10 +102,10 @@ fn print_made(column: u8, row: u8) {
     }
 }
 
-fn rows(column: u8) -> u32 {
+fn rows(column: Column) -> u32 {
     let mut asked: u32 = 0;
     for row in 0u16..256 {
-        print_made(column, (row % 256) as u8);
+        print_made(column, Row((row % 256) as u8));
         asked = wrapping_add_u32(asked, 1);
     }
     asked
@@ -114,7 +114,7 @@ fn rows(column: u8) -> u32 {
 fn columns() -> u32 {
     let mut asked: u32 = 0;
     for column in 0u16..256 {
-        asked = wrapping_add_u32(asked, rows((column % 256) as u8));
+        asked = wrapping_add_u32(asked, rows(Column((column % 256) as u8)));
     }
     asked
 }

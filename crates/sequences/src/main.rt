@@ -14,7 +14,7 @@ use paper::SequenceByte;
 use paper::Shift;
 
 // A meaning in four numbers.
-struct Answered {
+struct Said {
     word: u8,
     first: u8,
     second: u8,
@@ -30,6 +30,11 @@ const SHIFT: u8 = 6;
 const OTHER: u8 = 7;
 
 const REFUSED: u8 = 8;
+
+// No meaning is refusal 4, and the size of a control set is 32.
+const WITHOUT_MEANING: u8 = 4;
+
+const SIZE_OF_CONTROLS: u8 = 32;
 
 fn shift_number(shift: Shift) -> u8 {
     match shift {
@@ -54,8 +59,8 @@ fn element_number(element: Element) -> u8 {
     }
 }
 
-fn values(word: u8, first: u8, second: u8, third: u8) -> Answered {
-    Answered {
+fn answered(word: u8, first: u8, second: u8, third: u8) -> Said {
+    Said {
         word: word,
         first: first,
         second: second,
@@ -63,18 +68,18 @@ fn values(word: u8, first: u8, second: u8, third: u8) -> Answered {
     }
 }
 
-fn answered_by(meaning: Meaning) -> Answered {
+fn answered_by(meaning: Meaning) -> Said {
     match meaning {
-        Meaning::NoMeaning => values(REFUSED, 4, 0, 0),
-        Meaning::Other => values(OTHER, 0, 0, 0),
-        Meaning::Function(number) => values(CONTROL, number, 0, 0),
-        Meaning::Shifts(shift) => values(SHIFT, shift_number(shift), 0, 0),
+        Meaning::NoMeaning => answered(REFUSED, WITHOUT_MEANING, 0, 0),
+        Meaning::Other => answered(OTHER, 0, 0, 0),
+        Meaning::Function(number) => answered(CONTROL, number, 0, 0),
+        Meaning::Shifts(shift) => answered(SHIFT, shift_number(shift), 0, 0),
         Meaning::DesignateControls(element) => match element {
-            ControlElement::C0 => values(DESIGNATE, 0, 32, 1),
-            ControlElement::C1 => values(DESIGNATE, 1, 32, 1),
+            ControlElement::C0 => answered(DESIGNATE, 0, SIZE_OF_CONTROLS, 1),
+            ControlElement::C1 => answered(DESIGNATE, 1, SIZE_OF_CONTROLS, 1),
         },
         Meaning::Designate(element, kind, count) => {
-            values(
+            answered(
                 DESIGNATE,
                 element_number(element),
                 charsets::size_of(kind),
@@ -84,7 +89,7 @@ fn answered_by(meaning: Meaning) -> Answered {
     }
 }
 
-fn same(a: Answered, b: Answered) -> bool {
+fn same(a: Said, b: Said) -> bool {
     if a.word == b.word {
         if a.first == b.first {
             if a.second == b.second {

@@ -6,7 +6,8 @@ use native.Mathlib.Omega.{arith}
 use lib.ListN.{getD}
 use Rattle.paper.specs.Choice.{between, numbers}
 use Rattle.paper.specs.CodeTable.{bit8}
-use Rattle.paper.specs.Sets.{space, delete}
+use Rattle.paper.specs.Sets.{sizeOf, space, delete}
+use Rattle.paper.specs.declared.Kind.the-variants.{Of96}
 use Rattle.paper.specs.LatinGreek.{greekNumber}
 use Rattle.paper.proofs.Choices.{alike}
 use Rattle.unicode.specs.Lookup.{entryOf}
@@ -27,11 +28,11 @@ table =
     0x03C0 ∷ 0x03C1 ∷ 0x03C2 ∷ 0x03C3 ∷ 0x03C4 ∷ 0x03C5 ∷ 0x03C6 ∷ 0x03C7 ∷
     0x03C8 ∷ 0x03C9 ∷ 0x03CA ∷ 0x03CB ∷ 0x03CC ∷ 0x03CD ∷ 0x03CE ∷ 0 ∷ []
 
-rule : map entryOf table ≡ map greekNumber (numbers 96 0xA0)
+rule : map entryOf table ≡ map greekNumber (numbers (sizeOf Of96) (bit8 + space))
 unfolding entryOf greekNumber between
 rule = refl
 
 pub entry-at : (b : ℕ) → space ≤ b → b ≤ delete → entryOf (getD table (b - space) 0) ≡ greekNumber (bit8 + b)
 entry-at b low high =
-    let there : 0xA0 + (b - space) ≡ bit8 + b = omega arith in
-    alike entryOf greekNumber table 96 0xA0 rule (b - space) (omega arith) ∙ ap greekNumber there
+    let there : bit8 + space + (b - space) ≡ bit8 + b = omega arith in
+    alike entryOf greekNumber table (sizeOf Of96) (bit8 + space) rule (b - space) (omega arith) ∙ ap greekNumber there
