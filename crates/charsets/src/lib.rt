@@ -9,7 +9,8 @@ use paper::Set;
 use paper::SetByte;
 use paper::Sets;
 ghost use mathlib.Core.Path.{_≡_};
-ghost use Rattle.paper.specs.Sets.{sizeOf, bytesOf, positionByte, setByte, setIn, controlsIn, designated, designatedControls};
+ghost use Rattle.paper.specs.Sets.{sizeOf, bytesOf, positionByte, setByte, setIn, controlsIn, designated};
+ghost use Rattle.paper.specs.Sets.{designatedControls};
 ghost use Rattle.paper.specs.Starting.{oneByte96, latin, greek, startingSets};
 
 // The Final Bytes of the two mapped sets, 94 F 4/2 and 96 F 4/6.

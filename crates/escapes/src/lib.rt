@@ -10,7 +10,9 @@ use paper::Meaning;
 use paper::SequenceByte;
 use paper::Shift;
 ghost use mathlib.Core.Path.{_≡_};
-ghost use Rattle.paper.specs.Sequences.{sequenceByte, c1Function, rightShift, shiftOrOther, meaningOfNone, designation, shortDesignation, byIntermediate, meaningOfOne, severalBytes, meaningOfTwo, meaningOf};
+ghost use Rattle.paper.specs.Sequences.{sequenceByte, c1Function, rightShift, shiftOrOther, meaningOfNone};
+ghost use Rattle.paper.specs.Sequences.{designation, shortDesignation, byIntermediate, meaningOfOne, severalBytes};
+ghost use Rattle.paper.specs.Sequences.{meaningOfTwo, meaningOf};
 
 // An intermediate is of column 2, a final is 3/0 to 7/14.
 const FIRST_INTERMEDIATE: u8 = 0x20;

@@ -36,7 +36,9 @@ right : (u : ℕ) (x : Set) (l : List ℕ) (other : Located) → Right u other �
 right u x [] other r = r
 right u x (b ∷ bs) other r = right-first u x b (firstWith u x bs other) (isNumber u (numberIn x b)) refl (right u x bs other r)
 
-pub back-and-there : (u : ℕ) (x : Set) (p : Position) → locate u ≡ Located.At x p → unicodeOf x Count.One (p .column) (p .row) ≡ Numbered.Number u
+pub back-and-there : (u : ℕ) (x : Set) (p : Position) → locate u ≡ Located.At x p →
+    unicodeOf x Count.One (p .column) (p .row) ≡ Numbered.Number u
 unfolding locate
 back-and-there u x p e =
-    rw e at (right u latin positionBytes (firstWith u greek positionBytes Located.Nowhere) (right u greek positionBytes Located.Nowhere tt))
+    let in-greek = right u greek positionBytes Located.Nowhere tt in
+    rw e at (right u latin positionBytes (firstWith u greek positionBytes Located.Nowhere) in-greek)

@@ -44,7 +44,8 @@ module _ (t : Sets) (f : ℕ) where
   controls-has ControlElement.C0 = refl
   controls-has ControlElement.C1 = refl
 
-  pub controls-keeps : (w other : ControlElement) → (w ≡ other → ⊥) → controlsIn (designatedControls t w f) other ≡ controlsIn t other
+  pub controls-keeps : (w other : ControlElement) → (w ≡ other → ⊥) →
+      controlsIn (designatedControls t w f) other ≡ controlsIn t other
   controls-keeps ControlElement.C0 ControlElement.C0 d = absurd (d refl)
   controls-keeps ControlElement.C0 ControlElement.C1 d = refl
   controls-keeps ControlElement.C1 ControlElement.C0 d = refl

@@ -3,13 +3,16 @@ use Prim.Native.Nat.{ℕ}
 use mathlib.Core.Path.{_≡_, refl}
 use mathlib.Core.List.{List, [], _∷_, map}
 use Rattle.paper.specs.Choice.{between, numbers}
-use Rattle.paper.specs.Words.{ControlElement, G0, G1, G2, G3, Of94, Of96, Count, Set, Intermediates, LS0, LS1, LS2, LS3, LS1R, LS2R, LS3R, SS2, SS3, PositionBytes, Refusal, Answer, EndWord, Converted}
+use Rattle.paper.specs.Words.{ControlElement, G0, G1, G2, G3, Of94, Of96, Count, Set, Intermediates, LS0, LS1}
+use Rattle.paper.specs.Words.{LS2, LS3, LS1R, LS2R, LS3R, SS2, SS3, PositionBytes, Refusal, Answer, EndWord}
+use Rattle.paper.specs.Words.{Converted}
 use Rattle.paper.specs.CodeTable.{byteAt, positionOf}
 use Rattle.paper.specs.Sets.{setByte}
 use Rattle.paper.specs.Starting.{latin, greek}
 use Rattle.paper.specs.Refusals.{numberOf}
 use Rattle.paper.specs.LatinGreek.{greekNumber, numberIn, unicodeOf, locate}
-use Rattle.paper.specs.Results.{shiftNumber, wordOf, valuesOf, endOf, returnedConversion, Returned, returnedNumber, returnedPosition}
+use Rattle.paper.specs.Results.{shiftNumber, wordOf, valuesOf, endOf, returnedConversion, Returned}
+use Rattle.paper.specs.Results.{returnedNumber, returnedPosition}
 
 -- every answer, with values that differ wherever they can: its word, then its values
 abbrev said : Answer → List ℕ
@@ -136,7 +139,9 @@ nowhere u = record { number = u; returns = record { refusal = 11; values = 0 ∷
 
 abbrev pub backExamples : List Back
 backExamples =
-    back 0x41 (94 ∷ 1 ∷ 0x42 ∷ 4 ∷ 1 ∷ []) ∷ back 0x391 (96 ∷ 1 ∷ 0x46 ∷ 4 ∷ 1 ∷ []) ∷ back 0x2015 (96 ∷ 1 ∷ 0x46 ∷ 2 ∷ 15 ∷ []) ∷
+    back 0x41 (94 ∷ 1 ∷ 0x42 ∷ 4 ∷ 1 ∷ []) ∷
+    back 0x391 (96 ∷ 1 ∷ 0x46 ∷ 4 ∷ 1 ∷ []) ∷
+    back 0x2015 (96 ∷ 1 ∷ 0x46 ∷ 2 ∷ 15 ∷ []) ∷
     -- SPACE, DELETE and controls; what the unused would add up to; a number of neither set
     nowhere 0x20 ∷ nowhere 0x7F ∷ nowhere 0 ∷ nowhere 0x1B ∷ nowhere 0x3A2 ∷ nowhere 0xA4 ∷ nowhere 0x20AC ∷ nowhere 0x10391 ∷ []
 

@@ -4,8 +4,12 @@ use Prim.Native.Nat.{ℕ}
 use mathlib.Core.Path.{_≡_, refl}
 use mathlib.Core.List.{List, [], _∷_, map}
 use Rattle.paper.specs.Choice.{between}
-use Rattle.paper.specs.Words.{Form, Seven, Eight, ControlElement, Element, G0, G1, G2, G3, Kind, Of94, Of96, Count, Sets, Intermediate, Final, Neither, Intermediates, Shift, LS0, LS1, LS2, LS3, LS1R, LS2R, LS3R, SS2, SS3, Meaning, NoMeaning, Function, Shifts}
-use Rattle.paper.specs.Sequences.{sequenceByte, c1Function, shiftOrOther, designation, shortDesignation, severalBytes, meaningOfNone, byIntermediate, meaningOfOne, meaningOfTwo, meaningOf, sequenceAnswer, setsAfter, glAfter, grAfter}
+use Rattle.paper.specs.Words.{Form, Seven, Eight, ControlElement, Element, G0, G1, G2, G3, Kind, Of94, Of96}
+use Rattle.paper.specs.Words.{Count, Sets, Intermediate, Final, Neither, Intermediates, Shift, LS0, LS1, LS2}
+use Rattle.paper.specs.Words.{LS3, LS1R, LS2R, LS3R, SS2, SS3, Meaning, NoMeaning, Function, Shifts}
+use Rattle.paper.specs.Sequences.{sequenceByte, c1Function, shiftOrOther, designation, shortDesignation}
+use Rattle.paper.specs.Sequences.{severalBytes, meaningOfNone, byIntermediate, meaningOfOne, meaningOfTwo}
+use Rattle.paper.specs.Sequences.{meaningOf, sequenceAnswer, setsAfter, glAfter, grAfter}
 use Rattle.paper.specs.Sets.{sizeOf, bytesOf, designated, designatedControls}
 use Rattle.paper.specs.Results.{controlElementNumber, elementNumber, shiftNumber, wordOf, valuesOf}
 

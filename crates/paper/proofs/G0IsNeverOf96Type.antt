@@ -4,8 +4,11 @@ use mathlib.Core.Path.{_≡_, refl}
 use mathlib.Core.List.{List, [], _∷_}
 use lib.Dec.{leb, eqb}
 use Rattle.paper.specs.Choice.{between}
-use Rattle.paper.specs.Words.{Form, Seven, Eight, Of94, Count, Sets, Intermediates, Shift, LS1R, LS2R, LS3R, Meaning}
-use Rattle.paper.specs.Sequences.{firstFinal, lastFinal, isFinal, several, c1Function, rightShift, shiftOrOther, meaningOfNone, designation, shortDesignation, byIntermediate, meaningOfOne, severalBytes, meaningOfTwo, meaningOf, setsAfter}
+use Rattle.paper.specs.Words.{Form, Seven, Eight, Of94, Count, Sets, Intermediates, Shift, LS1R, LS2R, LS3R}
+use Rattle.paper.specs.Words.{Meaning}
+use Rattle.paper.specs.Sequences.{firstFinal, lastFinal, isFinal, several, c1Function, rightShift, shiftOrOther}
+use Rattle.paper.specs.Sequences.{meaningOfNone, designation, shortDesignation, byIntermediate, meaningOfOne}
+use Rattle.paper.specs.Sequences.{severalBytes, meaningOfTwo, meaningOf, setsAfter}
 use Rattle.paper.specs.Starting.{startingSets}
 use Rattle.paper.proofs.Choices.{gives-has}
 
@@ -35,7 +38,8 @@ keeps-none : (m : Form) (f : ℕ) → Keeps (meaningOfNone m f)
 unfolding meaningOfNone
 keeps-none m f =
     gives-has Keeps (between firstFinal 0x3F f) (λ t f h. h)
-    (gives-has Keeps (between 0x40 0x5F f) (keeps-function (f - 0x40)) (gives-has Keeps (between 0x60 lastFinal f) (keeps-shift m f) (λ t f h. h)))
+    (gives-has Keeps (between 0x40 0x5F f) (keeps-function (f - 0x40))
+    (gives-has Keeps (between 0x60 lastFinal f) (keeps-shift m f) (λ t f h. h)))
 
 keeps-designation : (i : ℕ) (n : Count) → Keeps (designation i n)
 unfolding designation
@@ -58,7 +62,8 @@ keeps-by i f =
     (gives-has Keeps (eqb i 0x23) (λ t f h. h)
     (gives-has Keeps (eqb i 0x26) (λ t f h. h)
     (gives-has Keeps (eqb i 0x21) (λ t f h. h)
-    (gives-has Keeps (eqb i 0x22) (λ t f h. h) (gives-has Keeps (eqb i several) (keeps-short f) (keeps-designation i Count.One))))))
+    (gives-has Keeps (eqb i 0x22) (λ t f h. h)
+    (gives-has Keeps (eqb i several) (keeps-short f) (keeps-designation i Count.One))))))
 
 keeps-several : (j f : ℕ) → Keeps (severalBytes j f)
 unfolding severalBytes
@@ -84,7 +89,8 @@ setsAfterAll m t (s ∷ l) = setsAfterAll m (setsAfter t (meaningOf m (s .interm
 g0-stays-of-94-type : (m : Form) (l : List Sequence) (t : Sets) → t .g0 .kind ≡ Of94 → setsAfterAll m t l .g0 .kind ≡ Of94
 g0-stays-of-94-type m [] t h = h
 g0-stays-of-94-type m (s ∷ l) t h =
-    g0-stays-of-94-type m l (setsAfter t (meaningOf m (s .intermediates) (s .last)) (s .last)) (keeps m (s .intermediates) (s .last) t (s .last) h)
+    g0-stays-of-94-type m l (setsAfter t (meaningOf m (s .intermediates) (s .last)) (s .last))
+    (keeps m (s .intermediates) (s .last) t (s .last) h)
 
 pub g0-is-of-94-type : (m : Form) (l : List Sequence) → setsAfterAll m startingSets l .g0 .kind ≡ Of94
 g0-is-of-94-type m l = g0-stays-of-94-type m l startingSets refl

@@ -8,7 +8,8 @@ use borrow.Author.Tests.{le-leb, leb-true}
 use lib.Dec.{leb}
 use Rattle.paper.specs.Choice.{_gives_or_}
 use Rattle.paper.specs.Words.{Column, Row, Made, Area, Form, Seven, Eight}
-use Rattle.paper.specs.CodeTable.{highest, byteAt, positionOf, lastOfC0, lastOfGL, lastOfC1, columnArea, formHasColumn}
+use Rattle.paper.specs.CodeTable.{highest, byteAt, positionOf, lastOfC0, lastOfGL, lastOfC1, columnArea}
+use Rattle.paper.specs.CodeTable.{formHasColumn}
 use Rattle.paper.proofs.Choices.{impossible}
 
 pub made-again : (b : ℕ) → b < 256 → byteAt (positionOf b .column) (positionOf b .row) ≡ Made.Byte b

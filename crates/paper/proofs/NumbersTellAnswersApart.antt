@@ -6,10 +6,13 @@ use mathlib.Core.List.{List}
 use lib.Dec.{eqb}
 use lib.ListN.{length, getD}
 use Rattle.paper.specs.Choice.{_gives_or_}
-use Rattle.paper.specs.Words.{Position, ControlElement, Element, G0, G1, G2, G3, Kind, Of94, Of96, Count, Set, Intermediates, Shift, LS0, LS1, LS2, LS3, LS1R, LS2R, LS3R, SS2, SS3, PositionBytes, Refusal, Answer, Numbered, Located}
+use Rattle.paper.specs.Words.{Position, ControlElement, Element, G0, G1, G2, G3, Kind, Of94, Of96, Count, Set}
+use Rattle.paper.specs.Words.{Intermediates, Shift, LS0, LS1, LS2, LS3, LS1R, LS2R, LS3R, SS2, SS3}
+use Rattle.paper.specs.Words.{PositionBytes, Refusal, Answer, Numbered, Located}
 use Rattle.paper.specs.Sets.{sizeOf, bytesOf}
 use Rattle.paper.specs.Refusals.{numberOf}
-use Rattle.paper.specs.Results.{controlElementNumber, elementNumber, shiftNumber, wordOf, valuesOf, Returned, returnedNumber, returnedPosition}
+use Rattle.paper.specs.Results.{controlElementNumber, elementNumber, shiftNumber, wordOf, valuesOf, Returned}
+use Rattle.paper.specs.Results.{returnedNumber, returnedPosition}
 
 -- each thing from its number
 abbrev controlElementFrom : ℕ → ControlElement
@@ -134,9 +137,12 @@ refusal-again Refusal.NotMapped = refl
 
 answer-again : (a : Answer) → answerFrom (wordOf a) (valuesOf a) ≡ a
 answer-again Answer.NothingYet = refl
-answer-again (Answer.Char e x (PositionBytes.One a)) = λ i. Answer.Char (element-again e i) (set-again x i) (PositionBytes.One a)
-answer-again (Answer.Char e x (PositionBytes.Two a b)) = λ i. Answer.Char (element-again e i) (set-again x i) (PositionBytes.Two a b)
-answer-again (Answer.Char e x (PositionBytes.Three a b c)) = λ i. Answer.Char (element-again e i) (set-again x i) (PositionBytes.Three a b c)
+answer-again (Answer.Char e x (PositionBytes.One a)) =
+    λ i. Answer.Char (element-again e i) (set-again x i) (PositionBytes.One a)
+answer-again (Answer.Char e x (PositionBytes.Two a b)) =
+    λ i. Answer.Char (element-again e i) (set-again x i) (PositionBytes.Two a b)
+answer-again (Answer.Char e x (PositionBytes.Three a b c)) =
+    λ i. Answer.Char (element-again e i) (set-again x i) (PositionBytes.Three a b c)
 answer-again Answer.Space = refl
 answer-again Answer.Delete = refl
 answer-again (Answer.Control w f n) = λ i. Answer.Control (control-element-again w i) f n
@@ -175,7 +181,8 @@ located-again (Located.At x p) = λ i. Located.At (set-again x i) p
 located-again Located.Nowhere = refl
 
 pub lookups-told-apart :
-    ((a b : Numbered) → returnedNumber a ≡ returnedNumber b → a ≡ b) × ((a b : Located) → returnedPosition a ≡ returnedPosition b → a ≡ b)
+    ((a b : Numbered) → returnedNumber a ≡ returnedNumber b → a ≡ b) ×
+    ((a b : Located) → returnedPosition a ≡ returnedPosition b → a ≡ b)
 lookups-told-apart = (
   λ a b e. sym (numbered-again a) ∙ ap numberedFrom e ∙ numbered-again b,
   λ a b e. sym (located-again a) ∙ ap locatedFrom e ∙ located-again b,

@@ -2,12 +2,14 @@
 -- were and whatever was shown; in 7-bit form no shift reaches GR, which has shown G1 since the start.
 use Prim.Native.Nat.{ℕ}
 use mathlib.Core.Path.{_≡_, refl}
-use mathlib.Core.List.{List, [], _∷_}
+use mathlib.Core.List.{List, [], _∷_, _++_}
 use lib.ListN.{length}
 use Rattle.paper.specs.Choice.{between}
 use Rattle.paper.specs.CodeTable.{so, si, esc}
-use Rattle.paper.specs.Words.{Form, Seven, Eight, Element, G1, Sets, Intermediates, Shift, LS0, LS1, Meaning, NoMeaning, Function, Shifts, Within, Standing, Reader}
-use Rattle.paper.specs.Sequences.{designation, c1Function, shiftOrOther, meaningOfNone, byIntermediate, meaningOfOne, meaningOf, setsAfter, glAfter, grAfter}
+use Rattle.paper.specs.Words.{Form, Seven, Eight, Element, G1, Sets, Intermediates, Shift, LS0, LS1, Meaning}
+use Rattle.paper.specs.Words.{NoMeaning, Function, Shifts, Within, Standing, Reader}
+use Rattle.paper.specs.Sequences.{designation, c1Function, shiftOrOther, meaningOfNone, byIntermediate}
+use Rattle.paper.specs.Sequences.{meaningOfOne, meaningOf, setsAfter, glAfter, grAfter}
 use Rattle.paper.specs.Starting.{started, opening}
 
 -- the parts of an opening: SI, SO, ESC F, ESC I F
@@ -23,9 +25,13 @@ partBytes (shiftOut ∷ l) = so ∷ partBytes l
 partBytes (alone f ∷ l) = esc ∷ f ∷ partBytes l
 partBytes (one i f ∷ l) = esc ∷ i ∷ f ∷ partBytes l
 
+-- both forms begin with the six designations
+abbrev pub designations : List Part
+designations = one 0x21 0x40 ∷ one 0x22 0x43 ∷ one 0x28 0x42 ∷ one 0x2D 0x46 ∷ one 0x2E 0x41 ∷ one 0x2F 0x4C ∷ []
+
 abbrev pub parts : Form → List Part
-parts Seven = one 0x21 0x40 ∷ one 0x22 0x43 ∷ one 0x28 0x42 ∷ one 0x2D 0x46 ∷ one 0x2E 0x41 ∷ one 0x2F 0x4C ∷ shiftOut ∷ shiftIn ∷ []
-parts Eight = one 0x21 0x40 ∷ one 0x22 0x43 ∷ one 0x28 0x42 ∷ one 0x2D 0x46 ∷ one 0x2E 0x41 ∷ one 0x2F 0x4C ∷ shiftIn ∷ alone 0x7E ∷ []
+parts Seven = designations ++ (shiftOut ∷ shiftIn ∷ [])
+parts Eight = designations ++ (shiftIn ∷ alone 0x7E ∷ [])
 
 pub opening-parts : (m : Form) → opening m ≡ partBytes (parts m)
 opening-parts Seven = refl

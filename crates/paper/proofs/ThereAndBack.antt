@@ -9,11 +9,13 @@ use native.Mathlib.Omega.{arith}
 use borrow.Author.Tests.{eqb-true}
 use lib.Dec.{eqb}
 use Rattle.paper.specs.Choice.{_gives_or_, between}
-use Rattle.paper.specs.Words.{Column, Row, Made, Kind, Of94, Of96, Count, Set, SetByte, OfSpace, OfDelete, OfSet, Outside, Numbered, Located}
+use Rattle.paper.specs.Words.{Column, Row, Made, Kind, Of94, Of96, Count, Set, SetByte, OfSpace, OfDelete}
+use Rattle.paper.specs.Words.{OfSet, Outside, Numbered, Located}
 use Rattle.paper.specs.CodeTable.{byteAt, positionOf, bit8}
 use Rattle.paper.specs.Sets.{sizeOf, positionByte, setByte, space, delete}
 use Rattle.paper.specs.Starting.{latin, greek}
-use Rattle.paper.specs.LatinGreek.{greekNumber, atPosition, numberBy, numberIn, numberMade, unicodeOf, locate, positionBytes}
+use Rattle.paper.specs.LatinGreek.{greekNumber, atPosition, numberBy, numberIn, numberMade, unicodeOf, locate}
+use Rattle.paper.specs.LatinGreek.{positionBytes}
 use Rattle.paper.proofs.Choices.{impossible, between-bounds, agree}
 use Rattle.paper.proofs.MadeAndTakenApart.{apart-again}
 

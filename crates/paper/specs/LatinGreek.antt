@@ -4,7 +4,8 @@ use mathlib.Core.Bool.{Bool, false}
 use mathlib.Core.List.{List, [], _∷_}
 use lib.Dec.{eqb}
 use Rattle.paper.specs.Choice.{_gives_or_, between, oneOf, numbers}
-use Rattle.paper.specs.Words.{Column, Row, Made, Kind, Of94, Of96, Count, Set, SetByte, OfSpace, OfDelete, OfSet, Outside, Numbered, Located}
+use Rattle.paper.specs.Words.{Column, Row, Made, Kind, Of94, Of96, Count, Set, SetByte, OfSpace, OfDelete}
+use Rattle.paper.specs.Words.{OfSet, Outside, Numbered, Located}
 use Rattle.paper.specs.CodeTable.{byteAt, positionOf, bit8}
 use Rattle.paper.specs.Sets.{sizeOf, space, setByte}
 use Rattle.paper.specs.Starting.{latin, greek}

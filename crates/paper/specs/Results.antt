@@ -1,7 +1,9 @@
 -- The paper's number and values of each case of an answer: demands and examples speak through these.
 use Prim.Native.Nat.{ℕ}
 use mathlib.Core.List.{List, [], _∷_, _++_}
-use Rattle.paper.specs.Words.{Made, ControlElement, Element, G0, G1, G2, G3, Set, Intermediates, Shift, LS0, LS1, LS2, LS3, LS1R, LS2R, LS3R, SS2, SS3, PositionBytes, Refusal, Answer, EndWord, Converted, Numbered, Located}
+use Rattle.paper.specs.Words.{Made, ControlElement, Element, G0, G1, G2, G3, Set, Intermediates, Shift, LS0}
+use Rattle.paper.specs.Words.{LS1, LS2, LS3, LS1R, LS2R, LS3R, SS2, SS3, PositionBytes, Refusal, Answer}
+use Rattle.paper.specs.Words.{EndWord, Converted, Numbered, Located}
 use Rattle.paper.specs.Sets.{sizeOf, bytesOf}
 use Rattle.paper.specs.Refusals.{numberOf}
 

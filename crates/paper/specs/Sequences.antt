@@ -3,7 +3,10 @@ use Prim.Native.Nat.{ℕ, _-_}
 use mathlib.Core.Bool.{Bool}
 use lib.Dec.{leb, eqb}
 use Rattle.paper.specs.Choice.{_gives_or_, between}
-use Rattle.paper.specs.Words.{Form, Seven, Eight, ControlElement, Element, G0, G1, G2, G3, Of94, Of96, Count, Sets, SequenceByte, Intermediate, Final, Neither, Intermediates, Shift, LS0, LS1, LS2, LS3, LS1R, LS2R, LS3R, SS2, SS3, Meaning, NoMeaning, Function, Shifts, Refusal, Answer}
+use Rattle.paper.specs.Words.{Form, Seven, Eight, ControlElement, Element, G0, G1, G2, G3, Of94, Of96, Count}
+use Rattle.paper.specs.Words.{Sets, SequenceByte, Intermediate, Final, Neither, Intermediates, Shift, LS0, LS1}
+use Rattle.paper.specs.Words.{LS2, LS3, LS1R, LS2R, LS3R, SS2, SS3, Meaning, NoMeaning, Function, Shifts}
+use Rattle.paper.specs.Words.{Refusal, Answer}
 use Rattle.paper.specs.Sets.{designated, designatedControls}
 
 abbrev pub isIntermediate : ℕ → Bool

@@ -2,7 +2,8 @@
 use Prim.Native.Nat.{ℕ}
 use lib.Dec.{eqb}
 use Rattle.paper.specs.Choice.{_gives_or_, between}
-use Rattle.paper.specs.Words.{ControlElement, Element, G0, G1, G2, G3, Kind, Of94, Of96, Count, Set, Sets, SetByte, OfSpace, OfDelete, OfSet, Outside}
+use Rattle.paper.specs.Words.{ControlElement, Element, G0, G1, G2, G3, Kind, Of94, Of96, Count, Set, Sets}
+use Rattle.paper.specs.Words.{SetByte, OfSpace, OfDelete, OfSet, Outside}
 
 -- of 94 or 96 type
 abbrev pub sizeOf : Kind → ℕ

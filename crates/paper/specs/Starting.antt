@@ -2,7 +2,8 @@
 use Prim.Native.Nat.{ℕ}
 use mathlib.Core.List.{List, [], _∷_, _++_}
 use Rattle.paper.specs.CodeTable.{so, si, esc}
-use Rattle.paper.specs.Words.{Form, Seven, Eight, G0, G1, Of94, Of96, Count, Set, Sets, Within, Standing, Reader}
+use Rattle.paper.specs.Words.{Form, Seven, Eight, G0, G1, Of94, Of96, Count, Set, Sets, Within, Standing}
+use Rattle.paper.specs.Words.{Reader}
 
 -- a set of 96 type, one byte to a character
 abbrev pub oneByte96 : ℕ → Set

@@ -62,7 +62,8 @@ made x u Made.NoPosition e p q = impossible (cc)
 
 nowhere : (u : ℕ) (r : Located) → locate u ≡ r →
     isNumber u (numberIn latin (u % bit8)) ≡ false → isNumber u (numberIn greek (greekByte u)) ≡ false → r ≡ Located.Nowhere
-nowhere u (Located.At x p) e no-latin no-greek = absurd (made x u (byteAt (p .column) (p .row)) (back-and-there u x p e) no-latin no-greek)
+nowhere u (Located.At x p) e no-latin no-greek =
+    absurd (made x u (byteAt (p .column) (p .row)) (back-and-there u x p e) no-latin no-greek)
 nowhere u Located.Nowhere e no-latin no-greek = refl
 
 chosen : (u : ℕ) (s t : Bool) → isNumber u (numberIn latin (u % bit8)) ≡ s → isNumber u (numberIn greek (greekByte u)) ≡ t →

@@ -11,4 +11,9 @@ starting-sets-spec =
     (λ c κs. search needs)
     (λ c κs. search needs)
     (λ c κs. search needs)
-    (λ c. simp (c .before .before .before .latin .ensures, c .before .before .greek .ensures, c .before .set-96 .ensures, c .set-962 .ensures)))
+    (λ c. simp (
+      c .before .before .before .latin .ensures,
+      c .before .before .greek .ensures,
+      c .before .set-96 .ensures,
+      c .set-962 .ensures,
+    )))

@@ -16,8 +16,36 @@ meaning-of-none-spec =
     (λ c κs. search needs)
     (λ c. between-bounds 0x40 0x5F _ (sym (c .before .between2 .ensures) ∙ c .if2 .taken) .0)
     (λ c κs. search needs)
-    (λ c. simp (← c .before .before .before .before .between .ensures, c .before .before .before .if1 .left, ← c .before .before .between2 .ensures, c .before .if2 .taken, c .c1-function .ensures))
+    (λ c. let second = c .before in
+    let first = second .before .before in
+    simp (
+      ← first .before .between .ensures,
+      first .if1 .left,
+      ← second .before .between2 .ensures,
+      second .if2 .taken,
+      c .c1-function .ensures,
+    ))
     (λ c κs. search needs)
     (λ c κs. search needs)
-    (λ c. simp (← c .before .before .before .before .before .before .between .ensures, c .before .before .before .before .before .if1 .left, ← c .before .before .before .before .between2 .ensures, c .before .before .before .if2 .left, ← c .before .before .between3 .ensures, c .before .if3 .taken, c .shift-or-other .ensures))
-    (λ c. simp (← c .before .before .before .before .before .between .ensures, c .before .before .before .before .if1 .left, ← c .before .before .before .between2 .ensures, c .before .before .if2 .left, ← c .before .between3 .ensures, c .if3 .left)))
+    (λ c. let third = c .before in
+    let second = third .before .before in
+    let first = second .before .before in
+    simp (
+      ← first .before .between .ensures,
+      first .if1 .left,
+      ← second .before .between2 .ensures,
+      second .if2 .left,
+      ← third .before .between3 .ensures,
+      third .if3 .taken,
+      c .shift-or-other .ensures,
+    ))
+    (λ c. let second = c .before .before in
+    let first = second .before .before in
+    simp (
+      ← first .before .between .ensures,
+      first .if1 .left,
+      ← second .before .between2 .ensures,
+      second .if2 .left,
+      ← c .before .between3 .ensures,
+      c .if3 .left,
+    )))

@@ -12,5 +12,15 @@ sequence-byte-spec =
     (λ c κs. search needs)
     (λ c. simp (← c .before .between .ensures, c .if1 .taken))
     (λ c κs. search needs)
-    (λ c. simp (← c .before .before .before .between .ensures, c .before .before .if1 .left, ← c .before .between2 .ensures, c .if2 .taken))
-    (λ c. simp (← c .before .before .before .between .ensures, c .before .before .if1 .left, ← c .before .between2 .ensures, c .if2 .left)))
+    (λ c. simp (
+      ← c .before .before .before .between .ensures,
+      c .before .before .if1 .left,
+      ← c .before .between2 .ensures,
+      c .if2 .taken,
+    ))
+    (λ c. simp (
+      ← c .before .before .before .between .ensures,
+      c .before .before .if1 .left,
+      ← c .before .between2 .ensures,
+      c .if2 .left,
+    )))

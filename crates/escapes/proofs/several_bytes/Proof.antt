@@ -14,5 +14,16 @@ several-bytes-spec =
     (λ c. simp (← c .before .before .between .ensures, c .before .if1 .taken, c .designate-by .ensures))
     (λ c κs. search needs)
     (λ c κs. search needs)
-    (λ c. simp (← c .before .before .before .before .between .ensures, c .before .before .before .if1 .left, ← c .before .before .between2 .ensures, c .before .if2 .taken, c .designate-by2 .ensures))
-    (λ c. simp (← c .before .before .before .between .ensures, c .before .before .if1 .left, ← c .before .between2 .ensures, c .if2 .left)))
+    (λ c. simp (
+      ← c .before .before .before .before .between .ensures,
+      c .before .before .before .if1 .left,
+      ← c .before .before .between2 .ensures,
+      c .before .if2 .taken,
+      c .designate-by2 .ensures,
+    ))
+    (λ c. simp (
+      ← c .before .before .before .between .ensures,
+      c .before .before .if1 .left,
+      ← c .before .between2 .ensures,
+      c .if2 .left,
+    )))

@@ -14,4 +14,11 @@ locate-spec =
     (λ c κs. search needs)
     (λ c. search needs)
     (λ c κs. search needs)
-    (λ c. simp (only-position, c .before .before .before .before .greek .ensures, c .before .before .before .greek-byte .ensures, c .before .before .position-with .ensures, c .before .latin .ensures, c .position-with2 .ensures)))
+    (λ c. simp (
+      only-position,
+      c .before .before .before .before .greek .ensures,
+      c .before .before .before .greek-byte .ensures,
+      c .before .before .position-with .ensures,
+      c .before .latin .ensures,
+      c .position-with2 .ensures,
+    )))

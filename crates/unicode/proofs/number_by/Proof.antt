@@ -16,7 +16,12 @@ number-by-spec =
     (λ c. search needs)
     (λ c. search (tests, c .before .before .before .enum-told .given .1, c .before .enum-told2 .given .1))
     (λ c. search (tests, c .before .before .before .enum-told .given .1, c .before .enum-told2 .given .1))
-    (λ c. search (tests, c .before .before .before .before .enum-told .given .1, c .before .before .enum-told3 .given .1, c .greek-number .ensures))
+    (λ c. search (
+      tests,
+      c .before .before .before .before .enum-told .given .1,
+      c .before .before .enum-told3 .given .1,
+      c .greek-number .ensures,
+    ))
     (λ c. search (tests, c .before .before .before .enum-told .given .1, c .before .enum-told3 .given .1))
     (λ c. search needs)
     (λ c. search needs))

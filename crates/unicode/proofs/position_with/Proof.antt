@@ -12,6 +12,11 @@ position-with-spec =
     (λ c. search needs)
     (λ c κs. search needs)
     (λ c. search needs)
-    (λ c. search (tests, ← c .before .before .before .before .before .number-in .ensures, c .before .before .before .found .given .1, c .position-of .ensures))
+    (λ c. search (
+      tests,
+      ← c .before .before .before .before .before .number-in .ensures,
+      c .before .before .before .found .given .1,
+      c .position-of .ensures,
+    ))
     (λ c. search (tests, ← c .before .before .before .before .number-in .ensures, c .before .before .found .given .1))
     (λ c. simp (← c .before .before .number-in .ensures, c .enum-told .given .1)))

@@ -14,7 +14,16 @@ unicode-of-spec =
     (λ c. search needs)
     (λ c. search needs)
     (λ c. search needs)
-    (λ c. simp (c .before .before .before .before .before .enum-told .given .1, ← c .before .before .before .before .byte-at .ensures, c .before .before .byte .given .1, c .number-in .ensures))
-    (λ c. simp (c .before .before .before .enum-told .given .1, ← c .before .before .byte-at .ensures, c .enum-told2 .given .1))
+    (λ c. simp (
+      c .before .before .before .before .before .enum-told .given .1,
+      ← c .before .before .before .before .byte-at .ensures,
+      c .before .before .byte .given .1,
+      c .number-in .ensures,
+    ))
+    (λ c. simp (
+      c .before .before .before .enum-told .given .1,
+      ← c .before .before .byte-at .ensures,
+      c .enum-told2 .given .1,
+    ))
     (λ c. search needs)
     (λ c. search needs))
