@@ -73,7 +73,7 @@ fn right_shift(form: Form, shift: Shift) -> Meaning
     }
 }
 
-// F of columns 6 and 7.
+// ESC F, F 6/0 to 7/14: what is no shift is other.
 fn shift_or_other(form: Form, last: u8) -> Meaning
     ensures { λ r. ⌜ r ≡ shiftOrOther form last ⌝ }
 {
