@@ -9,6 +9,10 @@ pub mod FilledPositions
 pub mod ThereAndBack
 pub mod BackAndThere
 pub mod NumbersTellAnswersApart
+pub mod ListsThatEnd
+pub mod AnswersAreLawful
+pub mod LostReadersSearch
+pub mod ExamplesOfThePaper
 pub mod ExamplesOfPositions
 pub mod ExamplesOfSequences
 pub mod ExamplesOfNumbers

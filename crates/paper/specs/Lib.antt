@@ -4,6 +4,13 @@ pub mod CodeTable
 pub mod Sets
 pub mod Starting
 pub mod Sequences
+pub mod Searching
+pub mod Characters
+pub mod Answering
+pub mod Texts
 pub mod Refusals
 pub mod Results
+pub mod LentBuffers
+pub mod Surveying
+pub mod Lister
 pub mod LatinGreek

@@ -15,3 +15,7 @@ numberOf Refusal.TooLong = 8
 numberOf Refusal.BufferShort = 9
 numberOf Refusal.NoNumber = 10
 numberOf Refusal.NotMapped = 11
+
+-- the longest text that is converted, surveyed or listed
+abbrev pub longestText : ℕ
+longestText = 65536

@@ -19,8 +19,11 @@ elementNumber G2 = 4
 elementNumber G3 = 5
 
 -- a set's size, 32 for controls, then its Final Byte
+abbrev pub controlSize : ℕ
+controlSize = 32
+
 abbrev pub controlsValues : ℕ → List ℕ
-controlsValues f = 32 ∷ f ∷ []
+controlsValues f = controlSize ∷ f ∷ []
 
 abbrev pub setValues : Set → List ℕ
 setValues x = sizeOf (x .kind) ∷ bytesOf (x .count) ∷ x .last ∷ []
@@ -49,19 +52,52 @@ sequenceValues (Intermediates.One i) f = i ∷ f ∷ []
 sequenceValues (Intermediates.Two i j) f = i ∷ j ∷ f ∷ []
 
 -- nothing yet, char, space, delete, control, designate, shift, other, refused, skipped, instep
+abbrev pub nothingYetWord : ℕ
+nothingYetWord = 0
+
+abbrev pub charWord : ℕ
+charWord = 1
+
+abbrev pub spaceWord : ℕ
+spaceWord = 2
+
+abbrev pub deleteWord : ℕ
+deleteWord = 3
+
+abbrev pub controlWord : ℕ
+controlWord = 4
+
+abbrev pub designateWord : ℕ
+designateWord = 5
+
+abbrev pub shiftWord : ℕ
+shiftWord = 6
+
+abbrev pub otherWord : ℕ
+otherWord = 7
+
+abbrev pub refusedWord : ℕ
+refusedWord = 8
+
+abbrev pub skippedWord : ℕ
+skippedWord = 9
+
+abbrev pub instepWord : ℕ
+instepWord = 10
+
 abbrev pub wordOf : Answer → ℕ
-wordOf Answer.NothingYet = 0
-wordOf (Answer.Char e x p) = 1
-wordOf Answer.Space = 2
-wordOf Answer.Delete = 3
-wordOf (Answer.Control w f n) = 4
-wordOf (Answer.DesignateControls w f) = 5
-wordOf (Answer.Designate e x) = 5
-wordOf (Answer.Shift h) = 6
-wordOf (Answer.Other s f) = 7
-wordOf (Answer.Refused r) = 8
-wordOf Answer.Skipped = 9
-wordOf (Answer.InStep n) = 10
+wordOf Answer.NothingYet = nothingYetWord
+wordOf (Answer.Char e x p) = charWord
+wordOf Answer.Space = spaceWord
+wordOf Answer.Delete = deleteWord
+wordOf (Answer.Control w f n) = controlWord
+wordOf (Answer.DesignateControls w f) = designateWord
+wordOf (Answer.Designate e x) = designateWord
+wordOf (Answer.Shift h) = shiftWord
+wordOf (Answer.Other s f) = otherWord
+wordOf (Answer.Refused r) = refusedWord
+wordOf Answer.Skipped = skippedWord
+wordOf (Answer.InStep n) = instepWord
 
 abbrev pub valuesOf : Answer → List ℕ
 valuesOf Answer.NothingYet = []

@@ -31,7 +31,13 @@ pub use Rattle.paper.specs.declared.Standing.{Standing}
 pub use Rattle.paper.specs.declared.Reader.{Reader}
 pub use Rattle.paper.specs.declared.Refusal.{Refusal}
 pub use Rattle.paper.specs.declared.Answer.{Answer}
+pub use Rattle.paper.specs.declared.Answered.{Answered}
 pub use Rattle.paper.specs.declared.EndWord.{EndWord}
+pub use Rattle.paper.specs.declared.FirstRefusal.{FirstRefusal}
+pub use Rattle.paper.specs.declared.FirstRefusal.the-variants.{Never, First}
+pub use Rattle.paper.specs.declared.Figures.{Figures}
+pub use Rattle.paper.specs.declared.Surveyed.{Surveyed}
+pub use Rattle.paper.specs.declared.Listed.{Listed}
 pub use Rattle.paper.specs.declared.Converted.{Converted}
 pub use Rattle.paper.specs.declared.Numbered.{Numbered}
 pub use Rattle.paper.specs.declared.Located.{Located}

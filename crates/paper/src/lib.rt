@@ -214,11 +214,56 @@ pub enum Answer {
     InStep(u16),
 }
 
+// What one byte gives: its answer, and the reader for the next byte.
+pub struct Answered {
+    pub answer: Answer,
+    pub reader: Reader,
+}
+
 // At the end of a text.
 pub enum EndWord {
     Whole,
     Inside,
     Lost,
+}
+
+// ---- What a text has
+
+// The first refusal of a text with its place, if there is one.
+pub enum FirstRefusal {
+    Never,
+    First(Refusal, usize),
+}
+
+// How many answers of each word a text has, the first refusal, and how the text ends.
+pub struct Figures {
+    pub characters: usize,
+    pub spaces: usize,
+    pub deletes: usize,
+    pub controls: usize,
+    pub designations: usize,
+    pub shifts: usize,
+    pub others: usize,
+    pub refusals: usize,
+    pub insteps: usize,
+    pub first: FirstRefusal,
+    pub end: EndWord,
+}
+
+// The figures of a text, or the refusal of one that is too long.
+pub enum Surveyed {
+    Has(Figures),
+    Refused(Refusal),
+}
+
+// ---- Lister
+
+// What a call wrote of a text's lines: all that were left; so many bytes, with the place and the reader to go on with; or
+// nothing, with the refusal.
+pub enum Listed {
+    Done(usize),
+    More(usize, usize, Reader),
+    Refused(Refusal),
 }
 
 // ---- The two written forms

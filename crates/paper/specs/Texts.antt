@@ -1,0 +1,42 @@
+-- What a text gives: folds over its bytes from a reader.
+use Prim.Native.Nat.{ℕ, zero, suc, _+_}
+use mathlib.Core.Bool.{Bool}
+use mathlib.Core.List.{List, [], _∷_, _++_}
+use lib.Dec.{eqb, leb}
+use lib.ListN.{length}
+use Rattle.paper.specs.Choice.{_gives_or_}
+use Rattle.paper.specs.Words.{Form, Reader, Answer, Answered, EndWord}
+use Rattle.paper.specs.Starting.{started, opening}
+use Rattle.paper.specs.Searching.{endsWith, skippedBytes}
+use Rattle.paper.specs.Answering.{answerTo, endOfText}
+
+-- the reader after a text
+abbrev pub readerAfter : Reader → List ℕ → Reader
+readerAfter r [] = r
+readerAfter r (b ∷ bs) = readerAfter (answerTo r b .reader) bs
+
+-- an answer with the offset of the byte that gave it
+pub record Placed : Type 0 where
+  pub offset : ℕ
+  pub answer : Answer
+
+abbrev pub answersFrom : ℕ → Reader → List ℕ → List Placed
+answersFrom at r [] = []
+answersFrom at r (b ∷ bs) = record { offset = at; answer = answerTo r b .answer } ∷ answersFrom (suc at) (answerTo r b .reader) bs
+
+-- of a text in a form: its answers, and the word at its end
+abbrev pub answersOf : Form → List ℕ → List Placed
+answersOf m l = answersFrom 0 (started m) l
+
+abbrev pub endWord : Form → List ℕ → EndWord
+endWord m l = endOfText (readerAfter (started m) l)
+
+-- The search, as the paper says it. Seen are all bytes since the refused one, it included: a byte is skipped until they end
+-- with the opening; that byte answers instep with their number, and what follows is read as from the start.
+unfoldable pub searched : Form → ℕ → List ℕ → List ℕ → List Placed
+searched m at seen [] = []
+searched m at seen (b ∷ bs) =
+    let all = seen ++ (b ∷ []) in
+    endsWith all (opening m) gives
+    record { offset = at; answer = Answer.InStep (skippedBytes (length all)) } ∷ answersFrom (suc at) (started m) bs or
+    record { offset = at; answer = Answer.Skipped } ∷ searched m (suc at) all bs
