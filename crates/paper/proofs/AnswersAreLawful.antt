@@ -8,7 +8,7 @@ use native.Mathlib.Omega.{arith}
 use lib.Dec.{ltb, eqb}
 use lib.ListN.{length}
 use Rattle.paper.specs.Choice.{_gives_or_}
-use Rattle.paper.specs.Words.{Area, ControlElement, Element, SetByte, OfSpace, OfDelete, OfSet, Outside}
+use Rattle.paper.specs.Words.{Area, Element, Set, SetByte, OfSpace, OfDelete, OfSet, Outside}
 use Rattle.paper.specs.Words.{SequenceByte, Intermediate, Final, Neither, Intermediates, LS0, LS1, Meaning}
 use Rattle.paper.specs.Words.{NoMeaning, Function, Shifts, GraphicArea, PositionBytes, Within, Standing, Reader}
 use Rattle.paper.specs.Words.{Refusal, Answer, Answered}
@@ -19,7 +19,7 @@ use Rattle.paper.specs.Sequences.{sequenceByte, c1Function, meaningOf}
 use Rattle.paper.specs.Refusals.{numberOf}
 use Rattle.paper.specs.Searching.{matchedWith, oneMore}
 use Rattle.paper.specs.Characters.{standingAt, says, waits, lostWith, refuses, shifts, c0Byte, positionIn, byteIn}
-use Rattle.paper.specs.Characters.{bytesSoFar, withByte, character, ofCharacter, firstInGL, kindIn}
+use Rattle.paper.specs.Characters.{bytesSoFar, withByte, character, ofCharacter, firstInGL}
 use Rattle.paper.specs.Answering.{means, intermediate, sequenceAt, groundAt, answerWithin, answerInStep}
 use Rattle.paper.specs.Answering.{answerSearching, answerLost, answerStanding, answerTo}
 use Rattle.paper.specs.Texts.{readerAfter}
@@ -50,21 +50,21 @@ module _ (r : Reader) (b : ℕ) where
       gives-has Lawful (eqb b esc) (refl, tt)
       (gives-has Lawful (eqb b so) (refl, tt) (gives-has Lawful (eqb b si) (refl, tt) (refl, tt)))
 
-  lawful-character : (e : Element) (a : GraphicArea) (p : PositionBytes) → Lawful (character e a p r)
+  lawful-character : (e : Element) (x : Set) (a : GraphicArea) (p : PositionBytes) → Lawful (character e x a p r)
   unfolding character
-  lawful-character e a p = gives-has Lawful (ltb (bytesSoFar p) (bytesOf (setIn (r .sets) e .count))) (refl, tt) (refl, tt)
+  lawful-character e x a p = gives-has Lawful (ltb (bytesSoFar p) (bytesOf (x .count))) (refl, tt) (refl, tt)
 
-  lawful-of : (s : SetByte) (e : Element) (a : GraphicArea) (p : PositionBytes) → Lawful (ofCharacter s e a p b r)
-  lawful-of OfSpace e a p = (refl, (omega arith, refl))
-  lawful-of OfDelete e a p = (refl, (omega arith, refl))
-  lawful-of OfSet e a p = lawful-character e a p
-  lawful-of Outside e a p = (refl, (omega arith, refl))
+  lawful-of : (s : SetByte) (e : Element) (x : Set) (a : GraphicArea) (p : PositionBytes) → Lawful (ofCharacter s e x a p b r)
+  lawful-of OfSpace e x a p = (refl, (omega arith, refl))
+  lawful-of OfDelete e x a p = (refl, (omega arith, refl))
+  lawful-of OfSet e x a p = lawful-character e x a p
+  lawful-of Outside e x a p = (refl, (omega arith, refl))
 
-  lawful-first : (s : SetByte) (e : Element) → Lawful (firstInGL s e b r)
-  lawful-first OfSpace e = (refl, tt)
-  lawful-first OfDelete e = (refl, tt)
-  lawful-first OfSet e = lawful-character e GraphicArea.GL (PositionBytes.One b)
-  lawful-first Outside e = (refl, (omega arith, refl))
+  lawful-first : (s : SetByte) (e : Element) (x : Set) → Lawful (firstInGL s e x b r)
+  lawful-first OfSpace e x = (refl, tt)
+  lawful-first OfDelete e x = (refl, tt)
+  lawful-first OfSet e x = lawful-character e x GraphicArea.GL (PositionBytes.One b)
+  lawful-first Outside e x = (refl, (omega arith, refl))
 
   lawful-means : (w : Meaning) (s : Intermediates) → Lawful (means w s b r)
   unfolding means
@@ -87,17 +87,19 @@ module _ (r : Reader) (b : ℕ) where
 
   lawful-ground : (a : Area) → Lawful (groundAt a b r)
   lawful-ground Area.C0 = lawful-c0
-  lawful-ground Area.GL = lawful-first (byteIn GraphicArea.GL (kindIn r (r .gl)) b) (r .gl)
+  lawful-ground Area.GL = let x = setIn (r .sets) (r .gl) in lawful-first (byteIn GraphicArea.GL (x .kind) b) (r .gl) x
   lawful-ground Area.C1 = lawful-means (c1Function (b - bit8)) Intermediates.None
   lawful-ground Area.GR =
-      lawful-of (byteIn GraphicArea.GR (kindIn r (r .gr)) b) (r .gr) GraphicArea.GR (PositionBytes.One (positionIn GraphicArea.GR b))
+      let x = setIn (r .sets) (r .gr) in
+      lawful-of (byteIn GraphicArea.GR (x .kind) b) (r .gr) x GraphicArea.GR (PositionBytes.One (positionIn GraphicArea.GR b))
 
   lawful-within : (w : Within) → Lawful (answerWithin w b r)
   lawful-within Within.Ground = lawful-ground (areaOf b)
   lawful-within (Within.Sequence s) = lawful-sequence (sequenceByte b) s
   lawful-within (Within.SingleShift e) =
-      lawful-of (byteIn GraphicArea.GL (kindIn r e) b) e GraphicArea.GL (PositionBytes.One b)
-  lawful-within (Within.Character e a p) = lawful-of (byteIn a (kindIn r e) b) e a (withByte p (positionIn a b))
+      let x = setIn (r .sets) e in lawful-of (byteIn GraphicArea.GL (x .kind) b) e x GraphicArea.GL (PositionBytes.One b)
+  lawful-within (Within.Character e a p) =
+      let x = setIn (r .sets) e in lawful-of (byteIn a (x .kind) b) e x a (withByte p (positionIn a b))
 
   lawful-searching : (k n : ℕ) → Lawful (answerSearching k n r)
   lawful-searching k n = gives-has Lawful (eqb k (length (opening (r .form)))) (refl, tt) (refl, tt)

@@ -6,6 +6,7 @@ use Rattle.paper.specs.Choice.{_gives_or_}
 use Rattle.paper.specs.Words.{Area, SequenceByte, Intermediate, Final, Neither, Intermediates, Meaning, NoMeaning}
 use Rattle.paper.specs.Words.{Function, Shifts, Within, Standing, Reader, Refusal, Answer, Answered, EndWord, Sets}
 use Rattle.paper.specs.CodeTable.{areaOf, formHas, bit8}
+use Rattle.paper.specs.Sets.{setIn}
 use Rattle.paper.specs.Starting.{started, opening}
 use Rattle.paper.specs.Sequences.{sequenceByte, c1Function, meaningOf, sequenceAnswer, setsAfter}
 use Rattle.paper.specs.Searching.{matchedWith, oneMore}
@@ -45,16 +46,16 @@ sequenceAt Neither s b r = refuses Refusal.NotOfSequence b r
 
 abbrev pub groundAt : Area → ℕ → Reader → Answered
 groundAt Area.C0 b r = c0Byte b r
-groundAt Area.GL b r = glByte b r
+groundAt Area.GL b r = glByte (r .gl) (setIn (r .sets) (r .gl)) b r
 groundAt Area.C1 b r = c1Byte b r
-groundAt Area.GR b r = grByte b r
+groundAt Area.GR b r = grByte (r .gr) (setIn (r .sets) (r .gr)) b r
 
 -- a byte of the form, by where the reader stands
 abbrev pub answerWithin : Within → ℕ → Reader → Answered
 answerWithin Within.Ground b r = groundAt (areaOf b) b r
 answerWithin (Within.Sequence s) b r = sequenceAt (sequenceByte b) s b r
-answerWithin (Within.SingleShift e) b r = singleByte e b r
-answerWithin (Within.Character e a p) b r = laterByte e a p b r
+answerWithin (Within.SingleShift e) b r = singleByte e (setIn (r .sets) e) b r
+answerWithin (Within.Character e a p) b r = laterByte e (setIn (r .sets) e) a p b r
 
 -- a byte of 128 or more in 7-bit form is refused before all others
 unfoldable pub answerInStep : Within → ℕ → Reader → Answered

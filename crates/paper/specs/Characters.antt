@@ -7,7 +7,7 @@ use Rattle.paper.specs.Words.{Area, ControlElement, Element, G2, G3, Kin
 use Rattle.paper.specs.Words.{Outside, Intermediates, Shift, LS0, LS1, LS2, LS3, LS1R, LS2R, LS3R, SS2, SS3}
 use Rattle.paper.specs.Words.{GraphicArea, PositionBytes, Within, Standing, Reader, Refusal, Answer, Answered}
 use Rattle.paper.specs.CodeTable.{bit8, so, si, esc}
-use Rattle.paper.specs.Sets.{bytesOf, setByte, setIn}
+use Rattle.paper.specs.Sets.{bytesOf, setByte}
 use Rattle.paper.specs.Sequences.{glAfter, grAfter}
 use Rattle.paper.specs.Searching.{matchedWith, oneMore}
 
@@ -84,43 +84,40 @@ withByte (PositionBytes.Two a b) c = PositionBytes.Three a b c
 withByte (PositionBytes.Three a b c) d = PositionBytes.Three a b c
 
 -- a character is element, set, and its position bytes, as many as the set has to a character
-unfoldable pub character : Element → GraphicArea → PositionBytes → Reader → Answered
-character e a p r =
-    ltb (bytesSoFar p) (bytesOf (setIn (r .sets) e .count)) gives waits (Within.Character e a p) r or
-    says (Answer.Char e (setIn (r .sets) e) p) r
+unfoldable pub character : Element → Set → GraphicArea → PositionBytes → Reader → Answered
+character e x a p r =
+    ltb (bytesSoFar p) (bytesOf (x .count)) gives waits (Within.Character e a p) r or
+    says (Answer.Char e x p) r
 
 -- a byte after a single shift, inside a character or in GR: under 94 type 2/0 and 7/15 are refused, and 10/0 and 15/15
-abbrev pub ofCharacter : SetByte → Element → GraphicArea → PositionBytes → ℕ → Reader → Answered
-ofCharacter OfSpace e a p b r = refuses Refusal.NotOfSet b r
-ofCharacter OfDelete e a p b r = refuses Refusal.NotOfSet b r
-ofCharacter OfSet e a p b r = character e a p r
-ofCharacter Outside e a p b r = refuses Refusal.AnotherArea b r
+abbrev pub ofCharacter : SetByte → Element → Set → GraphicArea → PositionBytes → ℕ → Reader → Answered
+ofCharacter OfSpace e x a p b r = refuses Refusal.NotOfSet b r
+ofCharacter OfDelete e x a p b r = refuses Refusal.NotOfSet b r
+ofCharacter OfSet e x a p b r = character e x a p r
+ofCharacter Outside e x a p b r = refuses Refusal.AnotherArea b r
 
 -- in GL, on the ground, they are SPACE and DELETE
-abbrev pub firstInGL : SetByte → Element → ℕ → Reader → Answered
-firstInGL OfSpace e b r = says Answer.Space r
-firstInGL OfDelete e b r = says Answer.Delete r
-firstInGL OfSet e b r = character e GraphicArea.GL (PositionBytes.One b) r
-firstInGL Outside e b r = refuses Refusal.AnotherArea b r
+abbrev pub firstInGL : SetByte → Element → Set → ℕ → Reader → Answered
+firstInGL OfSpace e x b r = says Answer.Space r
+firstInGL OfDelete e x b r = says Answer.Delete r
+firstInGL OfSet e x b r = character e x GraphicArea.GL (PositionBytes.One b) r
+firstInGL Outside e x b r = refuses Refusal.AnotherArea b r
 
-abbrev pub kindIn : Reader → Element → Kind
-kindIn r e = setIn (r .sets) e .kind
+-- a character's first byte, and a later one, of the set that the element has
+abbrev pub firstByte : Element → Set → GraphicArea → ℕ → Reader → Answered
+firstByte e x a b r = ofCharacter (byteIn a (x .kind) b) e x a (PositionBytes.One (positionIn a b)) b r
 
--- a character's first byte, and a later one
-abbrev pub firstByte : Element → GraphicArea → ℕ → Reader → Answered
-firstByte e a b r = ofCharacter (byteIn a (kindIn r e) b) e a (PositionBytes.One (positionIn a b)) b r
-
-abbrev pub laterByte : Element → GraphicArea → PositionBytes → ℕ → Reader → Answered
-laterByte e a p b r = ofCharacter (byteIn a (kindIn r e) b) e a (withByte p (positionIn a b)) b r
+abbrev pub laterByte : Element → Set → GraphicArea → PositionBytes → ℕ → Reader → Answered
+laterByte e x a p b r = ofCharacter (byteIn a (x .kind) b) e x a (withByte p (positionIn a b)) b r
 
 -- a byte of GL: the set that GL shows
-abbrev pub glByte : ℕ → Reader → Answered
-glByte b r = firstInGL (byteIn GraphicArea.GL (kindIn r (r .gl)) b) (r .gl) b r
+abbrev pub glByte : Element → Set → ℕ → Reader → Answered
+glByte e x b r = firstInGL (byteIn GraphicArea.GL (x .kind) b) e x b r
 
 -- a byte of GR
-abbrev pub grByte : ℕ → Reader → Answered
-grByte b r = firstByte (r .gr) GraphicArea.GR b r
+abbrev pub grByte : Element → Set → ℕ → Reader → Answered
+grByte e x b r = firstByte e x GraphicArea.GR b r
 
 -- after a single shift: from GL bytes only (H)
-abbrev pub singleByte : Element → ℕ → Reader → Answered
-singleByte e b r = firstByte e GraphicArea.GL b r
+abbrev pub singleByte : Element → Set → ℕ → Reader → Answered
+singleByte e x b r = firstByte e x GraphicArea.GL b r
