@@ -1,0 +1,3 @@
+pub mod BytesOfAreas
+pub mod OpeningBytes
+pub mod MatchGoesOn

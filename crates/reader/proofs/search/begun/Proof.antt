@@ -1,0 +1,14 @@
+-- The test is that of `begun`.
+use Rattle.paper.proofs.Tests.{tests}
+use Rattle.reader.specs.NextMatch.{begun}
+use borrow.Author.Needs.{needs}
+use Rattle.reader.proofs.search.begun.Statement.{statement}
+use Rattle.reader.proofs.search.begun.Tie as tie
+
+pub begun-spec : {M : Type 1} → statement M
+unfolding begun
+begun-spec =
+    tie.close
+    (tie.spec
+    (λ c. search tests)
+    (λ c. search tests))

@@ -1,0 +1,121 @@
+// The reader: one byte in, one answer and the reader for the next byte out. Every reader value has its answer, also one that
+// no text leads to.
+mod character;
+mod given;
+mod search;
+mod sequence;
+
+use given::refuse;
+use paper::Answered;
+use paper::Element;
+use paper::EndWord;
+use paper::Form;
+use paper::Reader;
+use paper::Refusal;
+use paper::Standing;
+use paper::Within;
+ghost use mathlib.Core.Path.{_≡_};
+ghost use Rattle.paper.specs.Starting.{started};
+ghost use Rattle.paper.specs.Answering.{groundAt, answerWithin, answerInStep, answerTo, endWithin, endOfText};
+ghost use Rattle.paper.specs.CodeTable.{areaOf};
+
+// The last columns of C0, GL and C1.
+const LAST_OF_C0: u8 = 1;
+
+const LAST_OF_GL: u8 = 7;
+
+const LAST_OF_C1: u8 = 9;
+
+// A reader at the start of a text.
+pub fn start(form: Form) -> Reader
+    ensures { λ r. ⌜ r ≡ started form ⌝ }
+{
+    let sets = charsets::starting_sets();
+    Reader {
+        form: form,
+        sets: sets,
+        gl: Element::G0,
+        gr: Element::G1,
+        standing: Standing::InStep(Within::Ground),
+    }
+}
+
+// The answer to one byte, and the reader for the next.
+pub fn read(reader: Reader, byte: u8) -> Answered
+    ensures { λ r. ⌜ r ≡ answerTo reader byte ⌝ }
+{
+    let standing = reader.standing;
+    match standing {
+        Standing::InStep(within) => answer_in_step(within, byte, reader),
+        Standing::Lost { matched, skipped } => search::answer_lost(matched, skipped, byte, reader),
+    }
+}
+
+// Whether a text that ends here is whole, ends inside, or is lost.
+pub fn end_word(reader: Reader) -> EndWord
+    ensures { λ r. ⌜ r ≡ endOfText reader ⌝ }
+{
+    let standing = reader.standing;
+    match standing {
+        Standing::InStep(within) => end_within(within),
+        Standing::Lost { .. } => EndWord::Lost,
+    }
+}
+
+fn end_within(within: Within) -> EndWord
+    ensures { λ r. ⌜ r ≡ endWithin within ⌝ }
+{
+    match within {
+        Within::Ground => EndWord::Whole,
+        Within::Sequence(_) => EndWord::Inside,
+        Within::SingleShift(_) => EndWord::Inside,
+        Within::Character(_, _, _) => EndWord::Inside,
+    }
+}
+
+// A byte that the form does not have is refused before all others.
+fn answer_in_step(within: Within, byte: u8, reader: Reader) -> Answered
+    ensures { λ r. ⌜ r ≡ answerInStep within byte reader ⌝ }
+{
+    let form = reader.form;
+    if codetable::form_has(form, byte) {
+        answer_within(within, byte, reader)
+    } else {
+        refuse(Refusal::ByteOfEightBits, byte, reader)
+    }
+}
+
+fn answer_within(within: Within, byte: u8, reader: Reader) -> Answered
+    ensures { λ r. ⌜ r ≡ answerWithin within byte reader ⌝ }
+{
+    match within {
+        Within::Ground => answer_on_ground(byte, reader),
+        Within::Sequence(intermediates) => sequence::next_byte(intermediates, byte, reader),
+        Within::SingleShift(element) => {
+            let sets = reader.sets;
+            character::single_byte(element, charsets::set_in(sets, element), byte, reader)
+        }
+        Within::Character(element, area, bytes) => {
+            let sets = reader.sets;
+            let set = charsets::set_in(sets, element);
+            character::later_byte(element, set, area, bytes, byte, reader)
+        }
+    }
+}
+
+// By the byte's column: C0, GL, C1 or GR.
+fn answer_on_ground(byte: u8, reader: Reader) -> Answered
+    ensures { λ r. ⌜ r ≡ groundAt (areaOf byte) byte reader ⌝ }
+{
+    let column = byte / 16;
+    if column <= LAST_OF_C0 {
+        return sequence::c0_byte(byte, reader);
+    }
+    if column <= LAST_OF_GL {
+        return character::shown_in_gl(byte, reader);
+    }
+    if column <= LAST_OF_C1 {
+        return sequence::c1_byte(byte, reader);
+    }
+    character::shown_in_gr(byte, reader)
+}
