@@ -10,9 +10,13 @@ pub mod ThereAndBack
 pub mod BackAndThere
 pub mod NumbersTellAnswersApart
 pub mod ListsThatEnd
-pub mod AnswersAreLawful
+pub mod LawfulAnswers
 pub mod LostReadersSearch
+pub mod ListingInPieces
 pub mod ExamplesOfThePaper
+pub mod ExamplesOfListings
+pub mod ExamplesOfFigures
+pub mod LongestText
 pub mod ExamplesOfPositions
 pub mod ExamplesOfSequences
 pub mod ExamplesOfNumbers

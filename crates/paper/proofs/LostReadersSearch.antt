@@ -20,7 +20,7 @@ use Rattle.paper.specs.Texts.{Placed, readerAfter, answersFrom, searched
 use Rattle.paper.proofs.Choices.{impossible}
 use Rattle.paper.proofs.ListsThatEnd.{Tail, ends-tail, tail-ends, last-byte, shorter, tail-with, tail-of, Longest}
 use Rattle.paper.proofs.ListsThatEnd.{longest-is}
-use Rattle.paper.proofs.AnswersAreLawful.{refused-lost, form-after}
+use Rattle.paper.proofs.LawfulAnswers.{refused-lost, form-after}
 
 -- ---- one byte more
 
