@@ -168,6 +168,10 @@ listingExamples =
     -- it may begin with the refused byte, and keeps what has been matched
     eight ((0x1B ∷ 0x28 ∷ 0x1B ∷ 0x21 ∷ 0x40 ∷ 0x1B ∷ 0x1B ∷ 0x21 ∷ 0x40 ∷ 0x1B ∷ 0x22 ∷ 0x43 ∷ 0x1B ∷ 0x28 ∷ 0x42 ∷ 0x1B ∷ 0x2D ∷ 0x46 ∷ 0x1B ∷ 0x2E ∷ 0x41 ∷ 0x1B ∷ 0x2F ∷ 0x4C ∷ 0x0F ∷ []) ++ opening Eight)
     ("2 refused 2" ∷ "45 instep 44" ∷ "end 46 whole" ∷ []) ∷
+    -- the state is then the starting state
+    eight ((0x1B ∷ 0x28 ∷ 0x4A ∷ 0x0E ∷ 0x1B ∷ 0x7D ∷ 0x1B ∷ 0x7F ∷ []) ++ opening Eight ++ (0x41 ∷ 0xC1 ∷ []))
+    ("2 designate G0 94 4A" ∷ "3 shift LS1" ∷ "5 shift LS2R" ∷ "7 refused 2" ∷ "28 instep 22" ∷
+    "29 char G0 94 42 41" ∷ "30 char G1 96 46 41" ∷ "end 31 whole" ∷ []) ∷
     -- a lost reader knows only the opening of its own form
     eight ((0x1B ∷ 0x7F ∷ []) ++ opening Seven ++ (0x41 ∷ []))
     ("1 refused 2" ∷ "end 23 lost" ∷ []) ∷

@@ -13,7 +13,7 @@ pub mod ListsThatEnd
 pub mod LawfulAnswers
 pub mod LostReadersSearch
 pub mod ListingInPieces
-pub mod ExamplesOfThePaper
+pub mod Examples
 pub mod ExamplesOfListings
 pub mod ExamplesOfFigures
 pub mod LongestText
