@@ -1,0 +1,17 @@
+-- Each arm is the clause of `elementName`.
+use borrow.Author.Needs.{needs}
+use Rattle.listing.proofs.fields.element_name.Statement.{statement}
+use Rattle.listing.proofs.fields.element_name.Tie as tie
+
+pub element-name-spec : {M : Type 1} → statement M
+element-name-spec =
+    tie.close
+    (tie.spec
+    (λ c. search needs)
+    (λ c. search needs)
+    (λ c. search needs)
+    (λ c. search needs)
+    (λ c. simp (c .before .before .enum-told .given .1))
+    (λ c. simp (c .before .before .enum-told2 .given .1))
+    (λ c. simp (c .before .before .enum-told3 .given .1))
+    (λ c. simp (c .before .before .enum-told4 .given .1)))
