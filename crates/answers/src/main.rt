@@ -12,7 +12,6 @@ use paper::FirstRefusal;
 use paper::Form;
 use paper::Listed;
 use paper::Reader;
-use paper::Refusal;
 use paper::Surveyed;
 
 // The longest text that is asked.

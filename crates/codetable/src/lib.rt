@@ -13,11 +13,21 @@ ghost use Rattle.paper.specs.CodeTable.{byteAt, positionOf, columnArea, areaOf,
 const HIGHEST: u8 = 15;
 
 // The last columns of C0, GL and C1. GL's is also the last of 7-bit form.
-const LAST_OF_C0: u8 = 1;
+pub const LAST_OF_C0: u8 = 1;
 
-const LAST_OF_GL: u8 = 7;
+pub const LAST_OF_GL: u8 = 7;
 
-const LAST_OF_C1: u8 = 9;
+pub const LAST_OF_C1: u8 = 9;
+
+// A byte of columns 8 to 15 is the one 8 columns before it with bit 8 set.
+pub const BIT_8: u8 = 0x80;
+
+// SO, SI and ESC keep their places in every C0 set.
+pub const SO: u8 = 0x0E;
+
+pub const SI: u8 = 0x0F;
+
+pub const ESC: u8 = 0x1B;
 
 // The byte that a column and a row make.
 pub fn byte_at(column: Column, row: Row) -> Made

@@ -9,7 +9,7 @@ use native.Mathlib.Numerals.{add-one}
 use borrow.Author.Tests.{eqb-true, eqb-false}
 use lib.Dec.{eqb}
 use lib.ListN.{length, drop, getD, set, replicate, length-set, drop-of-length-le}
-use lib.Seq.{drop-cons, drop-length, getD-set-same, getD-set-other}
+use lib.Seq.{drop-cons, getD-set-same, getD-set-other}
 use Rattle.paper.specs.Choice.{_gives_or_}
 use Rattle.paper.specs.Results.{wordOf, charWord, spaceWord, deleteWord, controlWord, designateWord, shiftWord}
 use Rattle.paper.specs.Results.{otherWord, refusedWord, instepWord}

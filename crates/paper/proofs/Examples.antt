@@ -4,9 +4,9 @@ use Prim.Native.Nat.{ℕ, zero, suc}
 use mathlib.Core.Path.{_≡_, refl}
 use mathlib.Core.List.{List, [], _∷_, _++_, map}
 use Rattle.paper.specs.Choice.{between}
-use Rattle.paper.specs.Words.{Form, Eight, Count, Set, PositionBytes, Answer, EndWord, Numbered}
-use Rattle.paper.specs.CodeTable.{byteAt, columnArea, formHasColumn, positionOf, so, esc}
-use Rattle.paper.specs.Sets.{setByte, space}
+use Rattle.paper.specs.Words.{Eight, Count, Set, PositionBytes, Answer, EndWord, Numbered}
+use Rattle.paper.specs.CodeTable.{byteAt, columnArea, formHasColumn, positionOf}
+use Rattle.paper.specs.Sets.{setByte}
 use Rattle.paper.specs.Starting.{opening}
 use Rattle.paper.specs.Sequences.{sequenceByte, c1Function, shiftOrOther, meaningOfNone, designation}
 use Rattle.paper.specs.Sequences.{shortDesignation, byIntermediate, meaningOfOne, severalBytes, meaningOfTwo}
@@ -14,7 +14,7 @@ use Rattle.paper.specs.Searching.{matchedWith, oneMore}
 use Rattle.paper.specs.Characters.{c0Byte, byteIn, character}
 use Rattle.paper.specs.Answering.{means, answerInStep, answerLost, answerTo}
 use Rattle.paper.specs.Texts.{Placed, answersOf, endWord}
-use Rattle.paper.specs.Results.{wordOf, valuesOf, endOf, Returned, returnedNumber, nothingYetWord, charWord}
+use Rattle.paper.specs.Results.{wordOf, valuesOf, Returned, returnedNumber, nothingYetWord, charWord}
 use Rattle.paper.specs.Results.{spaceWord, designateWord, shiftWord, refusedWord, skippedWord, instepWord}
 use Rattle.paper.specs.LatinGreek.{greekNumber, numberIn, unicodeOf}
 

@@ -2,23 +2,22 @@
 -- the reader lost with the refused byte.
 use Prim.Native.Nat.{ℕ, _-_, _≤_}
 use mathlib.Core.Path.{_≡_, refl, _∙_, subst}
-use mathlib.Core.Bool.{Bool, true, false}
 use mathlib.Core.List.{List, [], _∷_}
 use native.Mathlib.Omega.{arith}
 use lib.Dec.{ltb, eqb}
 use lib.ListN.{length}
 use Rattle.paper.specs.Choice.{_gives_or_}
 use Rattle.paper.specs.Words.{Area, Element, Set, SetByte, OfSpace, OfDelete, OfSet, Outside}
-use Rattle.paper.specs.Words.{SequenceByte, Intermediate, Final, Neither, Intermediates, LS0, LS1, Meaning}
+use Rattle.paper.specs.Words.{SequenceByte, Intermediate, Final, Neither, Intermediates, Meaning}
 use Rattle.paper.specs.Words.{NoMeaning, Function, Shifts, GraphicArea, PositionBytes, Within, Standing, Reader}
 use Rattle.paper.specs.Words.{Refusal, Answer, Answered}
 use Rattle.paper.specs.CodeTable.{areaOf, formHas, bit8, so, si, esc}
 use Rattle.paper.specs.Sets.{bytesOf, setIn}
-use Rattle.paper.specs.Starting.{started, opening}
+use Rattle.paper.specs.Starting.{opening}
 use Rattle.paper.specs.Sequences.{sequenceByte, c1Function, meaningOf}
 use Rattle.paper.specs.Refusals.{numberOf}
 use Rattle.paper.specs.Searching.{matchedWith, oneMore}
-use Rattle.paper.specs.Characters.{standingAt, says, waits, lostWith, refuses, shifts, c0Byte, positionIn, byteIn}
+use Rattle.paper.specs.Characters.{lostWith, c0Byte, positionIn, byteIn}
 use Rattle.paper.specs.Characters.{bytesSoFar, withByte, character, ofCharacter, firstInGL}
 use Rattle.paper.specs.Answering.{means, intermediate, sequenceAt, groundAt, answerWithin, answerInStep}
 use Rattle.paper.specs.Answering.{answerSearching, answerLost, answerStanding, answerTo}

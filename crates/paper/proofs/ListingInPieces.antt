@@ -14,7 +14,6 @@ use Rattle.paper.specs.Words.{Reader, Refusal, Listed}
 use Rattle.paper.specs.Refusals.{longestText}
 use Rattle.paper.specs.Answering.{answerTo, endOfText}
 use Rattle.paper.specs.Lister.{lineOf, endLine, linesFrom, Filled, stops, after, fillFrom, filled}
-use Rattle.paper.proofs.Choices.{impossible}
 
 -- the bytes that are left, parted where the next call goes on
 pub record Parted (n at : ℕ) (r : Reader) (l bytes : List ℕ) (next : ℕ) (reader : Reader) : Type 0 where

@@ -1,9 +1,9 @@
 -- A text of 65,536 bytes is surveyed and listed; one of 65,537 is refused with 8. By the test of its length.
 use Prim.Native.Nat.{ℕ}
-use mathlib.Core.Path.{_≡_, refl}
+use mathlib.Core.Path.{_≡_}
 use mathlib.Core.List.{List, []}
 use lib.ListN.{length, drop}
-use Rattle.paper.specs.Words.{Form, Reader, Refusal, Answer, Surveyed, Listed}
+use Rattle.paper.specs.Words.{Form, Reader, Refusal, Surveyed, Listed}
 use Rattle.paper.specs.Starting.{started}
 use Rattle.paper.specs.Surveying.{figuresOf, surveyOf}
 use Rattle.paper.specs.Lister.{ascii, linesFrom, listing, fillFrom, filled}

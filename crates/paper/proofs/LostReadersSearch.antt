@@ -14,10 +14,9 @@ use Rattle.paper.specs.Choice.{_gives_or_}
 use Rattle.paper.specs.Words.{Form, Seven, Eight, Standing, Reader, Refusal, Answer, Answered}
 use Rattle.paper.specs.Starting.{started, opening}
 use Rattle.paper.specs.Searching.{endsWith, longest, matchedWith, mostSkipped, skippedBytes, oneMore}
-use Rattle.paper.specs.Characters.{standingAt, lostWith}
-use Rattle.paper.specs.Answering.{answerSearching, answerLost, answerTo}
+use Rattle.paper.specs.Characters.{standingAt}
+use Rattle.paper.specs.Answering.{answerLost, answerTo}
 use Rattle.paper.specs.Texts.{Placed, readerAfter, answersFrom, searched}
-use Rattle.paper.proofs.Choices.{impossible}
 use Rattle.paper.proofs.ListsThatEnd.{Tail, ends-tail, tail-ends, last-byte, shorter, tail-with, tail-of, Longest}
 use Rattle.paper.proofs.ListsThatEnd.{longest-is}
 use Rattle.paper.proofs.LawfulAnswers.{refused-lost, form-after}

@@ -10,7 +10,7 @@ use Rattle.paper.specs.Sets.{setIn}
 use Rattle.paper.specs.Starting.{started, opening}
 use Rattle.paper.specs.Sequences.{sequenceByte, c1Function, meaningOf, sequenceAnswer, setsAfter}
 use Rattle.paper.specs.Searching.{matchedWith, oneMore}
-use Rattle.paper.specs.Characters.{standingAt, says, waits, lostWith, refuses, shifted, c0Byte, glByte, grByte}
+use Rattle.paper.specs.Characters.{standingAt, waits, lostWith, refuses, shifted, c0Byte, glByte, grByte}
 use Rattle.paper.specs.Characters.{singleByte, laterByte}
 
 -- a reader on the ground that has these sets

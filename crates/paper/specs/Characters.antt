@@ -1,9 +1,8 @@
 -- Characters and shifts: what a byte does to a reader that is in step, outside a sequence.
 use Prim.Native.Nat.{ℕ, _%_}
 use lib.Dec.{ltb, leb, eqb}
-use lib.ListN.{length}
 use Rattle.paper.specs.Choice.{_gives_or_}
-use Rattle.paper.specs.Words.{Area, ControlElement, Element, G2, G3, Kind, Set, SetByte, OfSpace, OfDelete, OfSet}
+use Rattle.paper.specs.Words.{ControlElement, Element, G2, G3, Kind, Set, SetByte, OfSpace, OfDelete, OfSet}
 use Rattle.paper.specs.Words.{Outside, Intermediates, Shift, LS0, LS1, LS2, LS3, LS1R, LS2R, LS3R, SS2, SS3}
 use Rattle.paper.specs.Words.{GraphicArea, PositionBytes, Within, Standing, Reader, Refusal, Answer, Answered}
 use Rattle.paper.specs.CodeTable.{bit8, so, si, esc}

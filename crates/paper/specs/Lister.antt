@@ -7,7 +7,7 @@ use mathlib.Core.List.{List, [], _∷_, _++_}
 use lib.Dec.{leb, ltb}
 use lib.ListN.{length, drop}
 use Rattle.paper.specs.Choice.{_gives_or_}
-use Rattle.paper.specs.Words.{Form, ControlElement, Element, G0, G1, G2, G3, Kind, Count, Set, Intermediates}
+use Rattle.paper.specs.Words.{Form, ControlElement, Element, G0, G1, G2, G3, Count, Set, Intermediates}
 use Rattle.paper.specs.Words.{Shift, LS0, LS1, LS2, LS3, LS1R, LS2R, LS3R, SS2, SS3, PositionBytes, Reader, Refusal}
 use Rattle.paper.specs.Words.{Answer, EndWord, Listed, Converted}
 use Rattle.paper.specs.Sets.{sizeOf, bytesOf}

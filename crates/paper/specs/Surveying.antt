@@ -1,5 +1,5 @@
 -- What a text has: how many answers of each word, its first refusal with the place, and how it ends.
-use Prim.Native.Nat.{ℕ, zero, suc}
+use Prim.Native.Nat.{ℕ, suc}
 use mathlib.Core.List.{List, [], _∷_}
 use lib.Dec.{leb, eqb}
 use lib.ListN.{length}

@@ -1,11 +1,9 @@
 -- What a text gives: folds over its bytes from a reader.
-use Prim.Native.Nat.{ℕ, zero, suc, _+_}
-use mathlib.Core.Bool.{Bool}
+use Prim.Native.Nat.{ℕ, suc, _+_}
 use mathlib.Core.List.{List, [], _∷_, _++_}
-use lib.Dec.{eqb, leb}
 use lib.ListN.{length}
 use Rattle.paper.specs.Choice.{_gives_or_}
-use Rattle.paper.specs.Words.{Form, Reader, Answer, Answered, EndWord}
+use Rattle.paper.specs.Words.{Form, Reader, Answer, EndWord}
 use Rattle.paper.specs.Starting.{started, opening}
 use Rattle.paper.specs.Searching.{endsWith, skippedBytes}
 use Rattle.paper.specs.Answering.{answerTo, endOfText}

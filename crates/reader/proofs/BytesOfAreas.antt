@@ -1,12 +1,12 @@
 -- A byte of GL or GR is no byte outside: what it is to a set is decided by its position byte alone.
 use Prim.Native.Nat.{ℕ, _+_, _%_, _<_, _≤_}
-use mathlib.Core.Path.{_≡_, refl}
+use mathlib.Core.Path.{_≡_}
 use native.Mathlib.Omega.{arith}
 use borrow.Author.Tests.{le-leb, ne-eqb}
 use Rattle.paper.specs.Choice.{between}
 use Rattle.paper.specs.CodeTable.{bit8}
 use Rattle.paper.specs.Sets.{space, delete, positionByte, setByte}
-use Rattle.paper.specs.Characters.{positionIn, byteIn}
+use Rattle.paper.specs.Characters.{byteIn}
 use Rattle.paper.specs.declared.GraphicArea.{GraphicArea}
 use Rattle.paper.specs.declared.Kind.{Kind}
 use Rattle.paper.specs.declared.Kind.the-variants.{Of94, Of96}

@@ -1,7 +1,6 @@
 -- How the search goes on without looking back: one byte more of the opening; or else what has begun again, which after an ESC
 -- can be its first two bytes, and otherwise its first.
 use Prim.Native.Nat.{ℕ, zero, suc, _+_}
-use mathlib.Core.List.{List}
 use lib.Dec.{ltb, eqb}
 use lib.ListN.{getD, length}
 use Rattle.paper.specs.Choice.{_gives_or_}

@@ -4,6 +4,7 @@ use crate::given::say;
 use crate::given::wait;
 use charsets::DELETE;
 use charsets::SPACE;
+use codetable::BIT_8;
 use paper::Answer;
 use paper::Answered;
 use paper::Element;
@@ -21,9 +22,6 @@ ghost use Rattle.paper.specs.CodeTable.{bit8};
 ghost use Rattle.paper.specs.Sets.{space, delete, setIn};
 ghost use Rattle.paper.specs.Characters.{positionIn, byteIn, bytesSoFar, withByte, character, ofCharacter, laterByte};
 ghost use Rattle.paper.specs.Characters.{glByte, grByte, singleByte};
-
-// A byte of columns 8 to 15 is the one 8 columns before it with bit 8 set.
-const BIT_8: u8 = 0x80;
 
 fn bytes_so_far(bytes: PositionBytes) -> u8
     ensures { λ r. ⌜ r ≡ bytesSoFar bytes ⌝ }

@@ -5,6 +5,9 @@ mod given;
 mod search;
 mod sequence;
 
+use codetable::LAST_OF_C0;
+use codetable::LAST_OF_C1;
+use codetable::LAST_OF_GL;
 use given::refuse;
 use paper::Answered;
 use paper::Element;
@@ -18,13 +21,6 @@ ghost use mathlib.Core.Path.{_≡_};
 ghost use Rattle.paper.specs.Starting.{started};
 ghost use Rattle.paper.specs.Answering.{groundAt, answerWithin, answerInStep, answerTo, endWithin, endOfText};
 ghost use Rattle.paper.specs.CodeTable.{areaOf};
-
-// The last columns of C0, GL and C1.
-const LAST_OF_C0: u8 = 1;
-
-const LAST_OF_GL: u8 = 7;
-
-const LAST_OF_C1: u8 = 9;
 
 // A reader at the start of a text.
 pub fn start(form: Form) -> Reader

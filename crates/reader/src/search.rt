@@ -1,5 +1,8 @@
 // The search of a lost reader for the opening of its form.
 use crate::given::standing_at;
+use codetable::ESC;
+use codetable::SI;
+use codetable::SO;
 use paper::Answer;
 use paper::Answered;
 use paper::Form;
@@ -13,13 +16,6 @@ ghost use Rattle.paper.specs.Searching.{matchedWith, oneMore};
 ghost use Rattle.paper.specs.Characters.{lostWith};
 ghost use Rattle.paper.specs.Answering.{answerSearching, answerLost};
 ghost use Rattle.reader.specs.NextMatch.{openingAt, endAt, begun, begunAfter, begunAt};
-
-// ESC, SO and SI keep their places in every C0 set.
-pub(crate) const ESC: u8 = 0x1B;
-
-pub(crate) const SO: u8 = 0x0E;
-
-pub(crate) const SI: u8 = 0x0F;
 
 // The bytes with which both openings begin.
 const COMMON: u8 = 18;
@@ -44,9 +40,6 @@ const OPENING_START: [u8; 18] = [
     0x2F,
     0x4C,
 ];
-
-// The opening's second byte.
-const SECOND: u8 = 0x21;
 
 // The number of bytes skipped is counted so far.
 const MOST_SKIPPED: u16 = 65535;
@@ -98,7 +91,7 @@ fn begun_after(before: u8, byte: u8) -> u8
     ensures { λ r. ⌜ r ≡ begunAfter before byte ⌝ }
 {
     if before == ESC {
-        if byte == SECOND {
+        if byte == OPENING_START[1] {
             return 2;
         }
         return begun(byte);

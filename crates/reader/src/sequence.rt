@@ -5,16 +5,15 @@ use crate::given::show;
 use crate::given::take_one;
 use crate::given::wait;
 use crate::given::with_sets;
-use crate::search::ESC;
-use crate::search::SI;
-use crate::search::SO;
+use codetable::BIT_8;
+use codetable::ESC;
+use codetable::SI;
+use codetable::SO;
 use paper::Answer;
 use paper::Answered;
 use paper::ControlElement;
-use paper::Count;
 use paper::Element;
 use paper::Intermediates;
-use paper::Kind;
 use paper::Meaning;
 use paper::Reader;
 use paper::Refusal;
@@ -29,9 +28,6 @@ ghost use Rattle.paper.specs.Sequences.{sequenceByte};
 ghost use Rattle.paper.specs.Characters.{shifts, c0Byte};
 ghost use Rattle.paper.specs.Answering.{means, c1Byte, intermediate, sequenceAt};
 ghost use Rattle.paper.specs.declared.Meaning.{Meaning};
-
-// The first byte of C1.
-const FIRST_OF_C1: u8 = 0x80;
 
 // SI, SO and ESC keep their places in every C0 set.
 pub(crate) fn c0_byte(byte: u8, reader: Reader) -> Answered
@@ -56,7 +52,7 @@ pub(crate) fn c1_byte(byte: u8, reader: Reader) -> Answered
     requires { ⌜ bit8 ≤ byte ⌝ }
     ensures { λ r. ⌜ r ≡ c1Byte byte reader ⌝ }
 {
-    let meaning = escapes::c1_function(byte - FIRST_OF_C1);
+    let meaning = escapes::c1_function(byte - BIT_8);
     mean(meaning, Intermediates::None, byte, reader)
 }
 

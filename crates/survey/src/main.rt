@@ -7,7 +7,6 @@ use paper::EndWord;
 use paper::Figures;
 use paper::FirstRefusal;
 use paper::Form;
-use paper::Refusal;
 use paper::Surveyed;
 
 // A text may have 65,536 bytes; one byte more shows that it is longer.

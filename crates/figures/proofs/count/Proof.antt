@@ -1,6 +1,5 @@
 -- The loop keeps `Counting`: at the end of the text nothing is left to count.
 use Prim.Native.Nat.{_-_}
-use mathlib.Core.Path.{refl}
 use native.Mathlib.Omega.{arith}
 use borrow.Author.Needs.{needs}
 use lib.ListN.{length}

@@ -11,26 +11,26 @@ gl-byte-spec =
     (λ c. search needs)
     (λ c κs. search needs)
     (λ c. simp (
-      in-gl (c .before .before .before .before .args .byte) (c .before .before .before .before .pre .0) (c .before .before .before .before .pre .1),
-      of-space (c .before .before .before .before .args .set .kind) (c .before .before .before .before .args .byte) (c .before .before .enum-told .given .1) (c .before .if1 .taken),
+      in-gl _ (c .before .before .before .before .pre .0) (c .before .before .before .before .pre .1),
+      of-space _ _ (c .before .before .enum-told .given .1) (c .before .if1 .taken),
       c .say .ensures,
     ))
     (λ c κs. search needs)
     (λ c. simp (
-      in-gl (c .before .before .before .before .before .args .byte) (c .before .before .before .before .before .pre .0) (c .before .before .before .before .before .pre .1),
-      of-delete (c .before .before .before .before .before .args .set .kind) (c .before .before .before .before .before .args .byte) (c .before .before .before .enum-told .given .1) (c .before .if2 .taken),
+      in-gl _ (c .before .before .before .before .before .pre .0) (c .before .before .before .before .before .pre .1),
+      of-delete _ _ (c .before .before .before .enum-told .given .1) (c .before .if2 .taken),
       c .say2 .ensures,
     ))
     (λ c κs. search needs)
     (λ c. search needs)
     (λ c κs. search needs)
     (λ c. simp (
-      in-gl (c .before .before .before .before .before .args .byte) (c .before .before .before .before .before .pre .0) (c .before .before .before .before .before .pre .1),
-      of-set (c .before .before .before .before .before .args .set .kind) (c .before .before .before .before .before .args .byte) (c .before .before .before .enum-told .given .1) (c .before .before .if1 .left) (c .before .if2 .left),
+      in-gl _ (c .before .before .before .before .before .pre .0) (c .before .before .before .before .before .pre .1),
+      of-set _ _ (c .before .before .before .enum-told .given .1) (c .before .before .if1 .left) (c .before .if2 .left),
       c .character .ensures,
     ))
     (λ c. simp (
-      in-gl (c .before .before .before .args .byte) (c .before .before .before .pre .0) (c .before .before .before .pre .1),
-      of-96 (c .before .before .before .args .set .kind) (c .before .before .before .args .byte) (c .before .enum-told2 .given .1),
+      in-gl _ (c .before .before .before .pre .0) (c .before .before .before .pre .1),
+      of-96 _ (c .before .before .before .args .byte) (c .before .enum-told2 .given .1),
       c .character2 .ensures,
     )))

@@ -13,26 +13,26 @@ gr-byte-spec =
     (λ c. search needs)
     (λ c κs. search needs)
     (λ c. simp (
-      in-gr (c .before .before .before .before .args .byte) (c .before .before .before .before .pre) (c .before .before .before .before .fits .byte .fits),
-      of-space (c .before .before .before .before .args .set .kind) (c .before .before .before .before .args .byte % bit8) (c .before .before .enum-told .given .1) (c .before .if1 .taken),
+      in-gr _ (c .before .before .before .before .pre) (c .before .before .before .before .fits .byte .fits),
+      of-space _ _ (c .before .before .enum-told .given .1) (c .before .if1 .taken),
       c .refuse .ensures,
     ))
     (λ c κs. search needs)
     (λ c. simp (
-      in-gr (c .before .before .before .before .before .args .byte) (c .before .before .before .before .before .pre) (c .before .before .before .before .before .fits .byte .fits),
-      of-delete (c .before .before .before .before .before .args .set .kind) (c .before .before .before .before .before .args .byte % bit8) (c .before .before .before .enum-told .given .1) (c .before .if2 .taken),
+      in-gr _ (c .before .before .before .before .before .pre) (c .before .before .before .before .before .fits .byte .fits),
+      of-delete _ _ (c .before .before .before .enum-told .given .1) (c .before .if2 .taken),
       c .refuse2 .ensures,
     ))
     (λ c κs. search needs)
     (λ c. search needs)
     (λ c κs. search needs)
     (λ c. simp (
-      in-gr (c .before .before .before .before .before .args .byte) (c .before .before .before .before .before .pre) (c .before .before .before .before .before .fits .byte .fits),
-      of-set (c .before .before .before .before .before .args .set .kind) (c .before .before .before .before .before .args .byte % bit8) (c .before .before .before .enum-told .given .1) (c .before .before .if1 .left) (c .before .if2 .left),
+      in-gr _ (c .before .before .before .before .before .pre) (c .before .before .before .before .before .fits .byte .fits),
+      of-set _ _ (c .before .before .before .enum-told .given .1) (c .before .before .if1 .left) (c .before .if2 .left),
       c .character .ensures,
     ))
     (λ c. simp (
-      in-gr (c .before .before .before .args .byte) (c .before .before .before .pre) (c .before .before .before .fits .byte .fits),
-      of-96 (c .before .before .before .args .set .kind) (c .before .before .before .args .byte % bit8) (c .before .enum-told2 .given .1),
+      in-gr _ (c .before .before .before .pre) (c .before .before .before .fits .byte .fits),
+      of-96 _ (c .before .before .before .args .byte % bit8) (c .before .enum-told2 .given .1),
       c .character2 .ensures,
     )))

@@ -1,7 +1,6 @@
 -- The test is that of `begun`.
 use Rattle.paper.proofs.Tests.{tests}
 use Rattle.reader.specs.NextMatch.{begun}
-use borrow.Author.Needs.{needs}
 use Rattle.reader.proofs.search.begun.Statement.{statement}
 use Rattle.reader.proofs.search.begun.Tie as tie
 

@@ -10,6 +10,7 @@ unfolding begunAfter
 begun-after-spec =
     tie.close
     (tie.spec
+    (λ c. search needs)
     (λ c. search tests)
     (λ c κs. search needs)
     (λ c. search (tests, c .begun .ensures))
