@@ -151,7 +151,9 @@ module _ {start r : Reader} {l counts : List ℕ} {first : FirstRefusal} {place 
       omega arith
 
   pub first-found : length l ≤ place → first ≡ firstRefusal (answersFrom 0 start l)
-  first-found h = sym (first-last first) ∙ (ap (λ (x : List ℕ). firstOf first (firstRefusal (answersFrom place r x))) (sym (nothing-left h)) ∙ c .refused)
+  first-found h =
+      sym (first-last first) ∙
+      (ap (λ (x : List ℕ). firstOf first (firstRefusal (answersFrom place r x))) (sym (nothing-left h)) ∙ c .refused)
 
   pub end-reached : length l ≤ place → endOfText r ≡ endOfText (readerAfter start l)
   end-reached h = ap (λ (x : List ℕ). endOfText (readerAfter r x)) (sym (nothing-left h)) ∙ c .ends

@@ -16,27 +16,27 @@ ghost use Rattle.paper.specs.declared.FirstRefusal.the-variants.{Never};
 ghost use Rattle.figures.specs.FirstOfTwo.{firstOf};
 
 // The places of the answer words in the paper's list, and how many there are.
-const NOTHING_YET: usize = 0;
+const NOTHING_YET_WORD: usize = 0;
 
-const CHAR: usize = 1;
+const CHAR_WORD: usize = 1;
 
-const SPACE: usize = 2;
+const SPACE_WORD: usize = 2;
 
-const DELETE: usize = 3;
+const DELETE_WORD: usize = 3;
 
-const CONTROL: usize = 4;
+const CONTROL_WORD: usize = 4;
 
-const DESIGNATE: usize = 5;
+const DESIGNATE_WORD: usize = 5;
 
-const SHIFT: usize = 6;
+const SHIFT_WORD: usize = 6;
 
-const OTHER: usize = 7;
+const OTHER_WORD: usize = 7;
 
-const REFUSED: usize = 8;
+const REFUSED_WORD: usize = 8;
 
-const SKIPPED: usize = 9;
+const SKIPPED_WORD: usize = 9;
 
-const INSTEP: usize = 10;
+const INSTEP_WORD: usize = 10;
 
 const WORDS: usize = 11;
 
@@ -57,18 +57,18 @@ fn word_of(answer: Answer) -> usize
     ensures { λ r. ⌜ r ≡ wordOf answer ⌝ }
 {
     match answer {
-        Answer::NothingYet => NOTHING_YET,
-        Answer::Char(_, _, _) => CHAR,
-        Answer::Space => SPACE,
-        Answer::Delete => DELETE,
-        Answer::Control(_, _, _) => CONTROL,
-        Answer::DesignateControls(_, _) => DESIGNATE,
-        Answer::Designate(_, _) => DESIGNATE,
-        Answer::Shift(_) => SHIFT,
-        Answer::Other(_, _) => OTHER,
-        Answer::Refused(_) => REFUSED,
-        Answer::Skipped => SKIPPED,
-        Answer::InStep(_) => INSTEP,
+        Answer::NothingYet => NOTHING_YET_WORD,
+        Answer::Char(_, _, _) => CHAR_WORD,
+        Answer::Space => SPACE_WORD,
+        Answer::Delete => DELETE_WORD,
+        Answer::Control(_, _, _) => CONTROL_WORD,
+        Answer::DesignateControls(_, _) => DESIGNATE_WORD,
+        Answer::Designate(_, _) => DESIGNATE_WORD,
+        Answer::Shift(_) => SHIFT_WORD,
+        Answer::Other(_, _) => OTHER_WORD,
+        Answer::Refused(_) => REFUSED_WORD,
+        Answer::Skipped => SKIPPED_WORD,
+        Answer::InStep(_) => INSTEP_WORD,
     }
 }
 
@@ -122,15 +122,15 @@ fn count(form: Form, text: &[u8]) -> Figures
     }
     let end = reader::end_word(reader);
     Figures {
-        characters: counts[CHAR],
-        spaces: counts[SPACE],
-        deletes: counts[DELETE],
-        controls: counts[CONTROL],
-        designations: counts[DESIGNATE],
-        shifts: counts[SHIFT],
-        others: counts[OTHER],
-        refusals: counts[REFUSED],
-        insteps: counts[INSTEP],
+        characters: counts[CHAR_WORD],
+        spaces: counts[SPACE_WORD],
+        deletes: counts[DELETE_WORD],
+        controls: counts[CONTROL_WORD],
+        designations: counts[DESIGNATE_WORD],
+        shifts: counts[SHIFT_WORD],
+        others: counts[OTHER_WORD],
+        refusals: counts[REFUSED_WORD],
+        insteps: counts[INSTEP_WORD],
         first: first,
         end: end,
     }

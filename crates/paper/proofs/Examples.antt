@@ -49,6 +49,8 @@ abbrev pub numbersOf : List Placed → List (List ℕ)
 numbersOf [] = []
 numbersOf (a ∷ l) = withNumber (a .answer) (numbersOf l)
 
+-- A character's values are its element, G0 to G3 being 2 to 5, the size and the bytes to a character, F, the position bytes; a
+-- designation's are the first four.
 pub record Example : Type 0 where
   pub bytes : List ℕ
   pub answers : List (List ℕ)

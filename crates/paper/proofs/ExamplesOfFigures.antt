@@ -4,7 +4,7 @@ use Prim.Native.Nat.{ℕ}
 use mathlib.Core.Path.{_≡_, refl}
 use mathlib.Core.List.{List, [], _∷_, _++_, map}
 use Rattle.paper.specs.Choice.{between}
-use Rattle.paper.specs.Words.{Form, Seven, Eight, Refusal, EndWord, Never, First, Figures}
+use Rattle.paper.specs.Words.{Form, Seven, Eight}
 use Rattle.paper.specs.CodeTable.{columnArea, formHasColumn, positionOf}
 use Rattle.paper.specs.Sets.{setByte}
 use Rattle.paper.specs.Starting.{opening}
@@ -14,11 +14,14 @@ use Rattle.paper.specs.Searching.{matchedWith, skippedBytes, oneMore}
 use Rattle.paper.specs.Characters.{c0Byte, byteIn, character}
 use Rattle.paper.specs.Answering.{means, answerInStep, answerLost, answerTo}
 use Rattle.paper.specs.Surveying.{figuresOf}
+use Rattle.paper.specs.Results.{figuresValues}
 
 pub record Example : Type 0 where
   pub form : Form
   pub bytes : List ℕ
-  pub figures : Figures
+  -- characters, spaces, deletes, controls, designations, shifts, others, refusals, insteps; the first refusal and its place;
+  -- the end
+  pub figures : List ℕ
 
 abbrev pub figureExamples : List Example
 figureExamples =
@@ -29,59 +32,21 @@ figureExamples =
           (0x41 ∷ 0x0A ∷ 0x85 ∷ 0x0D ∷ 0x7F ∷ 0x7F ∷ 0x0E ∷ 0x0F ∷ 0x1B ∷ 0x6F ∷ 0x8E ∷ 0x20 ∷ 0x1B ∷ 0x7E ∷ 0x0F ∷ []) ++
           opening Eight ++ (0x1B ∷ 0x30 ∷ 0xC1 ∷ 0x20 ∷ 0x1B ∷ 0x28 ∷ 0x0E ∷ 0x41 ∷ []) ++ opening Eight ++
           (0x1B ∷ 0x1B ∷ []) ++ opening Eight ++ (0x8E ∷ 0xC1 ∷ []);
-      figures = record {
-        characters = 3;
-        spaces = 1;
-        deletes = 2;
-        controls = 3;
-        designations = 6;
-        shifts = 9;
-        others = 1;
-        refusals = 3;
-        insteps = 2;
-        first = First Refusal.NotOfSequence 42;
-        end = EndWord.Lost;
-      };
+      figures = 3 ∷ 1 ∷ 2 ∷ 3 ∷ 6 ∷ 9 ∷ 1 ∷ 3 ∷ 2 ∷ 2 ∷ 42 ∷ 2 ∷ [];
     } ∷
     -- never refused, and inside at the end
     record {
       form = Seven;
       bytes = 0x41 ∷ 0x20 ∷ 0x0E ∷ 0x41 ∷ 0x1B ∷ [];
-      figures = record {
-        characters = 2;
-        spaces = 1;
-        deletes = 0;
-        controls = 0;
-        designations = 0;
-        shifts = 1;
-        others = 0;
-        refusals = 0;
-        insteps = 0;
-        first = Never;
-        end = EndWord.Inside;
-      };
+      figures = 2 ∷ 1 ∷ 0 ∷ 0 ∷ 0 ∷ 1 ∷ 0 ∷ 0 ∷ 0 ∷ 0 ∷ 0 ∷ 1 ∷ [];
     } ∷
     -- nothing to read
-    record {
-      form = Seven;
-      bytes = [];
-      figures = record {
-        characters = 0;
-        spaces = 0;
-        deletes = 0;
-        controls = 0;
-        designations = 0;
-        shifts = 0;
-        others = 0;
-        refusals = 0;
-        insteps = 0;
-        first = Never;
-        end = EndWord.Whole;
-      };
-    } ∷
+    record { form = Seven; bytes = []; figures = 0 ∷ 0 ∷ 0 ∷ 0 ∷ 0 ∷ 0 ∷ 0 ∷ 0 ∷ 0 ∷ 0 ∷ 0 ∷ 0 ∷ [] } ∷
     []
 
-pub figures-hold : map (λ (x : Example). figuresOf (x .form) (x .bytes)) figureExamples ≡ map (λ (x : Example). x .figures) figureExamples
+pub figures-hold :
+    map (λ (x : Example). figuresValues (figuresOf (x .form) (x .bytes))) figureExamples ≡
+    map (λ (x : Example). x .figures) figureExamples
 unfolding between columnArea formHasColumn positionOf setByte sequenceByte c1Function shiftOrOther meaningOfNone designation
     shortDesignation byIntermediate meaningOfOne severalBytes meaningOfTwo matchedWith oneMore c0Byte byteIn character means
     answerInStep answerLost answerTo

@@ -5,14 +5,14 @@ use mathlib.Core.List.{List, [], _∷_, map}
 use Rattle.paper.specs.Choice.{between, numbers}
 use Rattle.paper.specs.Words.{ControlElement, G0, G1, G2, G3, Of94, Of96, Count, Set, Intermediates, LS0, LS1}
 use Rattle.paper.specs.Words.{LS2, LS3, LS1R, LS2R, LS3R, SS2, SS3, PositionBytes, Refusal, Answer, EndWord}
-use Rattle.paper.specs.Words.{Converted}
+use Rattle.paper.specs.Words.{Reader, First, Figures, Surveyed, Listed, Converted}
 use Rattle.paper.specs.CodeTable.{byteAt, positionOf}
 use Rattle.paper.specs.Sets.{setByte}
 use Rattle.paper.specs.Starting.{latin, greek}
 use Rattle.paper.specs.Refusals.{numberOf}
 use Rattle.paper.specs.LatinGreek.{greekNumber, numberIn, unicodeOf, locate}
 use Rattle.paper.specs.Results.{shiftNumber, wordOf, valuesOf, endOf, returnedConversion, Returned}
-use Rattle.paper.specs.Results.{returnedNumber, returnedPosition}
+use Rattle.paper.specs.Results.{returnedNumber, returnedPosition, returnedSurvey, returnedListing}
 
 -- every answer, with values that differ wherever they can: its word, then its values
 abbrev said : Answer → List ℕ
@@ -148,3 +148,27 @@ backExamples =
 pub back-returns : map (λ (w : Back). returnedPosition (locate (w .number))) backExamples ≡ map (λ (w : Back). w .returns) backExamples
 unfolding positionOf setByte between numberIn greekNumber locate
 back-returns = refl
+
+-- what a survey and a listing return
+pub calls-return : (r : Reader) →
+    (map returnedSurvey
+    (Surveyed.Has (record {
+      characters = 1;
+      spaces = 2;
+      deletes = 3;
+      controls = 4;
+      designations = 5;
+      shifts = 6;
+      others = 7;
+      refusals = 8;
+      insteps = 9;
+      first = First Refusal.NotOfSet 10;
+      end = EndWord.Lost;
+    }) ∷
+    Surveyed.Refused Refusal.TooLong ∷ []) ≡
+    record { refusal = 0; values = 1 ∷ 2 ∷ 3 ∷ 4 ∷ 5 ∷ 6 ∷ 7 ∷ 8 ∷ 9 ∷ 5 ∷ 10 ∷ 2 ∷ [] } ∷
+    record { refusal = 8; values = [] } ∷ []) ×
+    (map returnedListing (Listed.Done 7 ∷ Listed.More 7 8 r ∷ Listed.Refused Refusal.BufferShort ∷ []) ≡
+    record { refusal = 0; values = 7 ∷ [] } ∷ record { refusal = 0; values = 7 ∷ 8 ∷ [] } ∷
+    record { refusal = 9; values = 0 ∷ [] } ∷ [])
+calls-return r = (refl, refl)

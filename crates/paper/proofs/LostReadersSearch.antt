@@ -6,6 +6,7 @@ use mathlib.Core.Path.{_≡_, refl, sym, ap, _∙_}
 use mathlib.Core.Bool.{Bool, true, false}
 use mathlib.Core.List.{List, [], _∷_, _++_, append-assoc}
 use native.Mathlib.Omega.{arith}
+use native.Mathlib.Nat.{zero-add, add-zero, add-suc, suc-add}
 use borrow.Author.Tests.{leb-true, leb-false, eqb-true, eqb-false, lt-ltb, le-ltb}
 use lib.Dec.{leb, ltb, eqb}
 use lib.ListN.{take, length, getD, length-append}
@@ -16,7 +17,7 @@ use Rattle.paper.specs.Starting.{started, opening}
 use Rattle.paper.specs.Searching.{endsWith, longest, matchedWith, mostSkipped, skippedBytes, oneMore}
 use Rattle.paper.specs.Characters.{standingAt}
 use Rattle.paper.specs.Answering.{answerLost, answerTo}
-use Rattle.paper.specs.Texts.{Placed, readerAfter, answersFrom, searched}
+use Rattle.paper.specs.Texts.{Placed, readerAfter, answersFrom, answersOf, searched}
 use Rattle.paper.proofs.ListsThatEnd.{Tail, ends-tail, tail-ends, last-byte, shorter, tail-with, tail-of, Longest}
 use Rattle.paper.proofs.ListsThatEnd.{longest-is}
 use Rattle.paper.proofs.LawfulAnswers.{refused-lost, form-after}
@@ -102,7 +103,9 @@ placed at a = record { offset = at; answer = a }
 
 module _ (r : Reader) where
   abbrev found : Bool → ℕ → ℕ → Answered
-  found t k n = t gives record { answer = Answer.InStep n; reader = started (r .form) } or record { answer = Answer.Skipped; reader = lost r k n }
+  found t k n =
+      t gives record { answer = Answer.InStep n; reader = started (r .form) } or
+      record { answer = Answer.Skipped; reader = lost r k n }
 
   -- after one byte more: the opening is complete, or the search goes on
   on : (t : Bool) (at : ℕ) (seen bs : List ℕ) (k n : ℕ) → eqb k (length (opening (r .form))) ≡ t →
@@ -123,7 +126,8 @@ module _ (r : Reader) where
   unfolding searched answerTo answerLost matchedWith
   lost-searches [] at seen k n kept = refl
   lost-searches (b ∷ bs) at seen k n kept =
-      on (eqb (matchedWith (r .form) k b) (length (opening (r .form)))) at (seen ++ (b ∷ [])) bs (matchedWith (r .form) k b) (oneMore n) refl
+      on (eqb (matchedWith (r .form) k b) (length (opening (r .form)))) at (seen ++ (b ∷ [])) bs
+      (matchedWith (r .form) k b) (oneMore n) refl
       (next-longest (opening (r .form)) seen k b (kept .matched))
       (rw (kept .counted) (count-on (length seen)) ∙ ap skippedBytes (sym (length-append seen (b ∷ []))))
       (λ more. lost-searches bs (suc at) (seen ++ (b ∷ [])) (matchedWith (r .form) k b) (oneMore n) more)
@@ -168,8 +172,19 @@ search-from r b n at bs e =
     (ap (λ (l : List Placed). placed at (Answer.Refused n) ∷ l)
     (lost-searches r bs (suc at) (b ∷ []) (matchedWith (r .form) 0 b) (oneMore 0) (kept-first (r .form) b)))
 
+-- a text that goes on is answered as the text, and then from where it left the reader
+answers-on : (l more : List ℕ) (at : ℕ) (r : Reader) →
+    answersFrom at r (l ++ more) ≡ answersFrom at r l ++ answersFrom (at + length l) (readerAfter r l) more
+answers-on [] more at r = rw add-zero
+answers-on (b ∷ bs) more at r = rw (answers-on bs more (suc at) (answerTo r b .reader), add-suc, suc-add)
+
 -- after any text: the byte that is refused, then the search, which begins with it
-pub search-after : (m : Form) (l : List ℕ) (b : ℕ) (n : Refusal) (at : ℕ) (bs : List ℕ) →
+pub search-after : (m : Form) (l : List ℕ) (b : ℕ) (n : Refusal) (bs : List ℕ) →
     answerTo (readerAfter (started m) l) b .answer ≡ Answer.Refused n →
-    answersFrom at (readerAfter (started m) l) (b ∷ bs) ≡ placed at (Answer.Refused n) ∷ searched m (suc at) (b ∷ []) bs
-search-after m l b n at bs e = search-from (readerAfter (started m) l) b n at bs e ∙ rw (form-after l (started m))
+    answersOf m (l ++ b ∷ bs) ≡ answersOf m l ++ placed (length l) (Answer.Refused n) ∷ searched m (suc (length l)) (b ∷ []) bs
+search-after m l b n bs e =
+    let r : Reader = readerAfter (started m) l in
+    answers-on l (b ∷ bs) 0 (started m) ∙
+    ap (λ (x : List Placed). answersOf m l ++ x)
+    (ap (λ (at : ℕ). answersFrom at r (b ∷ bs)) (zero-add (length l)) ∙
+    (search-from r b n (length l) bs e ∙ rw (form-after l (started m))))

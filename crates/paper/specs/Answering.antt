@@ -17,7 +17,7 @@ use Rattle.paper.specs.Characters.{singleByte, laterByte}
 abbrev pub withSets : Sets → Reader → Reader
 withSets t r = record { form = r .form; sets = t; gl = r .gl; gr = r .gr; standing = Standing.InStep Within.Ground }
 
--- the reader after a function: lost where there is no meaning, shifted, or on the ground with its sets
+-- the reader after a sequence or a C1 function: lost where there is no meaning, shifted, or on the ground with its sets
 abbrev pub afterMeaning : Meaning → ℕ → Reader → Reader
 afterMeaning NoMeaning f r = lostWith f r
 afterMeaning Meaning.Other f r = withSets (setsAfter (r .sets) Meaning.Other f) r
@@ -39,11 +39,13 @@ intermediate Intermediates.None b r = waits (Within.Sequence (Intermediates.One 
 intermediate (Intermediates.One i) b r = waits (Within.Sequence (Intermediates.Two i b)) r
 intermediate (Intermediates.Two i j) b r = refuses Refusal.ThirdIntermediate b r
 
+-- a byte inside a sequence: it goes on, it ends, or the byte is refused
 abbrev pub sequenceAt : SequenceByte → Intermediates → ℕ → Reader → Answered
 sequenceAt Intermediate s b r = intermediate s b r
 sequenceAt Final s b r = means (meaningOf (r .form) s b) s b r
 sequenceAt Neither s b r = refuses Refusal.NotOfSequence b r
 
+-- a byte on the ground, by its area
 abbrev pub groundAt : Area → ℕ → Reader → Answered
 groundAt Area.C0 b r = c0Byte b r
 groundAt Area.GL b r = glByte (r .gl) (setIn (r .sets) (r .gl)) b r

@@ -71,7 +71,7 @@ unfoldable pub byteIn : GraphicArea → Kind → ℕ → SetByte
 byteIn GraphicArea.GL k b = setByte k b
 byteIn GraphicArea.GR k b = leb bit8 b gives setByte k (positionIn GraphicArea.GR b) or Outside
 
--- how many position bytes there are so far, and with one more
+-- how many position bytes there are so far, and with one more; no set has four to a character
 abbrev pub bytesSoFar : PositionBytes → ℕ
 bytesSoFar (PositionBytes.One a) = 1
 bytesSoFar (PositionBytes.Two a b) = 2
@@ -95,7 +95,7 @@ ofCharacter OfDelete e x a p b r = refuses Refusal.NotOfSet b r
 ofCharacter OfSet e x a p b r = character e x a p r
 ofCharacter Outside e x a p b r = refuses Refusal.AnotherArea b r
 
--- in GL, on the ground, they are SPACE and DELETE
+-- in GL, on the ground, they are SPACE and DELETE; no byte of GL is outside
 abbrev pub firstInGL : SetByte → Element → Set → ℕ → Reader → Answered
 firstInGL OfSpace e x b r = says Answer.Space r
 firstInGL OfDelete e x b r = says Answer.Delete r

@@ -10,7 +10,7 @@ use Rattle.paper.specs.Choice.{_gives_or_}
 use Rattle.paper.specs.Words.{Form, ControlElement, Element, G0, G1, G2, G3, Count, Set, Intermediates}
 use Rattle.paper.specs.Words.{Shift, LS0, LS1, LS2, LS3, LS1R, LS2R, LS3R, SS2, SS3, PositionBytes, Reader, Refusal}
 use Rattle.paper.specs.Words.{Answer, EndWord, Listed, Converted}
-use Rattle.paper.specs.Sets.{sizeOf, bytesOf}
+use Rattle.paper.specs.Sets.{sizeOf, bytesOf, space}
 use Rattle.paper.specs.Starting.{started}
 use Rattle.paper.specs.Refusals.{numberOf, longestText}
 use Rattle.paper.specs.Results.{controlSize}
@@ -21,10 +21,11 @@ abbrev pub ascii : String → List ℕ
 ascii end = []
 ascii (c then s) = code c ∷ ascii s
 
--- offsets, counts, lengths and refusal numbers are decimal, with no zero in front; twenty digits hold every number of 64 bits
+-- the digits 0 to 9, then A to F
 abbrev pub digit : ℕ → ℕ
-digit d = ltb d 10 gives 0x30 + d or 0x37 + d
+digit d = ltb d 10 gives 0x30 + d or 0x41 + (d - 10)
 
+-- offsets, counts, lengths and refusal numbers are decimal, with no zero in front; twenty digits hold every number of 64 bits
 abbrev pub decimalWithin : ℕ → ℕ → List ℕ
 decimalWithin zero n = []
 decimalWithin (suc k) n = ltb n 10 gives digit n ∷ [] or decimalWithin k (n / 10) ++ (digit (n % 10) ∷ [])
@@ -78,9 +79,12 @@ sequenceFields (Intermediates.One i) f = hex i ∷ hex f ∷ []
 sequenceFields (Intermediates.Two i j) f = hex i ∷ hex j ∷ hex f ∷ []
 
 -- fields are parted by one space; each line has its end
+abbrev pub lineEnd : ℕ
+lineEnd = 0x0A
+
 abbrev pub line : List ℕ → List (List ℕ) → List ℕ
-line field [] = field ++ (0x0A ∷ [])
-line field (next ∷ fields) = field ++ (0x20 ∷ line next fields)
+line field [] = field ++ (lineEnd ∷ [])
+line field (next ∷ fields) = field ++ (space ∷ line next fields)
 
 -- a line per answer, except nothing yet and skipped: the offset, the answer word, its fields
 abbrev pub lineOf : ℕ → Answer → List ℕ

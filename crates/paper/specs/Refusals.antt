@@ -1,5 +1,5 @@
--- Refusal numbers. Where each stands in a text is said by whoever gives it: the reader 1 to 6, a conversion 7 to 9; a lookup
--- gives 10 or 11 at place 0.
+-- Refusal numbers. Where each stands in a text is said by whoever gives it: the reader 1 to 6, a conversion 7 to 9, a survey 8, a
+-- listing 8 and 9; a lookup gives 10 or 11 at place 0.
 use Prim.Native.Nat.{ℕ}
 use Rattle.paper.specs.Words.{Refusal}
 

@@ -3,7 +3,7 @@ use Prim.Native.Nat.{ℕ}
 use mathlib.Core.List.{List, [], _∷_, _++_}
 use Rattle.paper.specs.Words.{Made, ControlElement, Element, G0, G1, G2, G3, Set, Intermediates, Shift, LS0}
 use Rattle.paper.specs.Words.{LS1, LS2, LS3, LS1R, LS2R, LS3R, SS2, SS3, PositionBytes, Refusal, Answer}
-use Rattle.paper.specs.Words.{EndWord, Converted, Numbered, Located}
+use Rattle.paper.specs.Words.{EndWord, FirstRefusal, Never, First, Figures, Surveyed, Listed, Converted, Numbered, Located}
 use Rattle.paper.specs.Sets.{sizeOf, bytesOf}
 use Rattle.paper.specs.Refusals.{numberOf}
 
@@ -139,6 +139,28 @@ returnedNumber Numbered.NoNumber = refusedLookup Refusal.NoNumber
 abbrev pub returnedPosition : Located → Returned
 returnedPosition (Located.At x p) = record { refusal = 0; values = setValues x ++ (p .column .0 ∷ p .row .0 ∷ []) }
 returnedPosition Located.Nowhere = refusedLookup Refusal.NotMapped
+
+-- a survey returns its figures in their order, then the first refusal's number and place, 0 and 0 where there is none, and the
+-- end; nothing where it refuses
+abbrev pub firstValues : FirstRefusal → List ℕ
+firstValues Never = 0 ∷ 0 ∷ []
+firstValues (First r at) = numberOf r ∷ at ∷ []
+
+abbrev pub figuresValues : Figures → List ℕ
+figuresValues f =
+    f .characters ∷ f .spaces ∷ f .deletes ∷ f .controls ∷ f .designations ∷ f .shifts ∷ f .others ∷ f .refusals ∷ f .insteps ∷
+    (firstValues (f .first) ++ (endOf (f .end) ∷ []))
+
+abbrev pub returnedSurvey : Surveyed → Returned
+returnedSurvey (Surveyed.Has f) = record { refusal = 0; values = figuresValues f }
+returnedSurvey (Surveyed.Refused r) = record { refusal = numberOf r; values = [] }
+
+-- a listing returns the length of what it wrote, 0 where it refuses, and where there is more the place to go on with; the
+-- reader there has no number
+abbrev pub returnedListing : Listed → Returned
+returnedListing (Listed.Done n) = record { refusal = 0; values = n ∷ [] }
+returnedListing (Listed.More n at r) = record { refusal = 0; values = n ∷ at ∷ [] }
+returnedListing (Listed.Refused r) = record { refusal = numberOf r; values = 0 ∷ [] }
 
 -- a conversion returns a place, 0 where it does not refuse, and the length of its output, 0 where it refuses
 abbrev pub returnedConversion : Converted → Returned

@@ -1,5 +1,6 @@
--- The search of a lost reader, as the paper says it: all bytes since the refused one, it included; skipped until they end with
--- the opening; then instep with their number. And what a reader keeps of them: how much of the opening they end with.
+-- What the search of a lost reader is made of: whether bytes end with others, and what a reader keeps of the bytes since the
+-- refused one, which is how much of the opening they end with and how many they are. The search itself, as the paper says it,
+-- is `searched` in Texts.
 use Prim.Native.Nat.{ℕ, zero, suc, _+_, _-_}
 use mathlib.Core.Bool.{Bool, true, false}
 use mathlib.Core.List.{List, [], _∷_, _++_}
@@ -9,12 +10,12 @@ use Rattle.paper.specs.Choice.{_gives_or_}
 use Rattle.paper.specs.Words.{Form}
 use Rattle.paper.specs.Starting.{opening}
 
--- two lists of bytes are the same, where they are so far
+-- two lists of bytes are the same: what was compared before them, and then byte by byte
 abbrev pub sameOn : Bool → List ℕ → List ℕ → Bool
-sameOn far [] [] = far
-sameOn far [] (c ∷ cs) = false
-sameOn far (b ∷ bs) [] = false
-sameOn far (b ∷ bs) (c ∷ cs) = sameOn (far gives eqb b c or false) bs cs
+sameOn before [] [] = before
+sameOn before [] (c ∷ cs) = false
+sameOn before (b ∷ bs) [] = false
+sameOn before (b ∷ bs) (c ∷ cs) = sameOn (before gives eqb b c or false) bs cs
 
 abbrev pub same : List ℕ → List ℕ → Bool
 same bs cs = sameOn true bs cs

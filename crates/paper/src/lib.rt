@@ -268,7 +268,7 @@ pub enum Listed {
 
 // ---- The two written forms
 
-// What a conversion answers: the length of its output, or a refusal with its place.
+// What a call that writes into a lent buffer answers, as a conversion: the length of its output, or a refusal with its place.
 pub enum Converted {
     Done(usize),
     Refused(Refusal, usize),

@@ -1,5 +1,5 @@
 -- The opening's bytes by their place: those with which both forms begin, then those of each form, computed at each place.
-use Prim.Native.Nat.{ℕ, zero, suc, _-_, _<_, _≤_}
+use Prim.Native.Nat.{ℕ, _<_, _≤_}
 use mathlib.Core.Path.{_≡_, refl}
 use native.Mathlib.Omega.{arith}
 use lib.ListN.{getD, length}
@@ -7,7 +7,7 @@ use Rattle.paper.specs.Starting.{openingStart, opening}
 use Rattle.paper.specs.declared.Form.{Form}
 use Rattle.paper.specs.declared.Form.the-variants.{Seven, Eight}
 use Rattle.paper.proofs.Choices.{agree}
-use Rattle.reader.specs.NextMatch.{openingAt, common, endAt, begun, begunAfter, begunAt}
+use Rattle.reader.specs.NextMatch.{openingAt, common, endAt}
 
 pub start-at : (m : Form) (k : ℕ) → k < common → getD openingStart k 0 ≡ openingAt m k
 start-at Seven k h = agree (λ n. getD openingStart n 0) (openingAt Seven) common 0 refl k (omega arith) h
@@ -16,11 +16,3 @@ start-at Eight k h = agree (λ n. getD openingStart n 0) (openingAt Eight) commo
 pub end-at : (m : Form) (k : ℕ) → common ≤ k → k < length (opening m) → endAt m k ≡ openingAt m k
 end-at Seven k low high = agree (endAt Seven) (openingAt Seven) 2 common refl k low high
 end-at Eight k low high = agree (endAt Eight) (openingAt Eight) 3 common refl k low high
-
--- what has begun, by whether there is a byte of the opening before
-pub begun-first : (m : Form) (k b : ℕ) → k ≡ 0 → begun b ≡ begunAt m k b
-begun-first m k b e = rw e
-
-pub begun-later : (m : Form) (k b : ℕ) → (k ≡ 0 → ⊥) → begunAfter (openingAt m (k - 1)) b ≡ begunAt m k b
-begun-later m zero b n = absurd (n refl)
-begun-later m (suc k) b n = let e : suc k - 1 ≡ k = omega arith in rw e

@@ -1,6 +1,6 @@
 -- How the search goes on without looking back: one byte more of the opening; or else what has begun again, which after an ESC
 -- can be its first two bytes, and otherwise its first.
-use Prim.Native.Nat.{ℕ, zero, suc, _+_}
+use Prim.Native.Nat.{ℕ, _+_, _-_}
 use lib.Dec.{ltb, eqb}
 use lib.ListN.{getD, length}
 use Rattle.paper.specs.Choice.{_gives_or_}
@@ -34,9 +34,11 @@ begunAfter before b =
     eqb before esc gives (eqb b (getD openingStart 1 0) gives 2 or begun b) or
     begun b
 
-abbrev pub begunAt : Form → ℕ → ℕ → ℕ
-begunAt m zero b = begun b
-begunAt m (suc k) b = begunAfter (openingAt m k) b
+-- what has begun again, where so much of the opening stood before the byte; its first two bytes only after two bytes or more
+unfoldable pub begunAt : Form → ℕ → ℕ → ℕ
+begunAt m k b =
+    ltb k 2 gives begun b or
+    begunAfter (openingAt m (k - 1)) b
 
 unfoldable pub nextMatch : Form → ℕ → ℕ → ℕ
 nextMatch m k b =

@@ -41,7 +41,7 @@ const OPENING_START: [u8; 18] = [
     0x4C,
 ];
 
-// The number of bytes skipped is counted so far.
+// The number of bytes skipped is counted up to this.
 const MOST_SKIPPED: u16 = 65535;
 
 fn opening_length(form: Form) -> u8
@@ -103,7 +103,7 @@ fn begun_at(form: Form, matched: u8, byte: u8) -> u8
     requires { ⌜ matched < length (opening form) ⌝ }
     ensures { λ r. ⌜ r ≡ begunAt form matched byte ⌝ }
 {
-    if matched == 0 {
+    if matched < 2 {
         return begun(byte);
     }
     begun_after(opening_at(form, matched - 1), byte)

@@ -12,4 +12,6 @@ opening-at-spec =
     (λ c. search needs)
     (λ c κs. search needs)
     (λ c. start-at (c .before .args .form) (c .before .args .place) (c .if1 .taken))
-    (λ c. c .end-at .ensures ∙ end-at (c .before .before .args .form) (c .before .before .args .place) (c .before .if1 .left) (c .before .before .pre)))
+    (λ c.
+    c .end-at .ensures ∙
+    end-at (c .before .before .args .form) (c .before .before .args .place) (c .before .if1 .left) (c .before .before .pre)))
