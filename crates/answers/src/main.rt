@@ -1,7 +1,8 @@
 // Runs texts through the reader, the survey and the listing, so that another reader can be held against them. Standard input
 // has, for each text, a byte for its form, 7 or 8, three bytes for its length, the highest first, and the text. For each,
 // standard output has a line with the form and the length; a line for every byte's answer, also for nothing yet and skipped; the
-// end; the survey on a line; and the listing, in pieces of up to 64 bytes, each after a line with its length.
+// end; the survey on a line; the listing, in pieces of up to 64 bytes, each after a line with its length; and what a buffer of
+// eight bytes takes of it.
 use libc::STDIN_FILENO;
 use libc::STDOUT_FILENO;
 use paper::Answer;
@@ -19,6 +20,9 @@ const ROOM: usize = 80000;
 
 // A line fits, and a piece of a listing has a few lines.
 const PIECE: usize = 64;
+
+// The shortest line has eight bytes.
+const FEW: usize = 8;
 
 // More texts than there are.
 const TEXTS: usize = 100000;
@@ -192,6 +196,25 @@ fn print_listing(form: Form, text: &[u8]) {
     }
 }
 
+// Into a buffer that is too short for most lines.
+fn print_short(form: Form, text: &[u8]) {
+    let mut few = [0u8; FEW];
+    print(b"short");
+    match listing::list(text, 0, reader::start(form), &mut few) {
+        Listed::Done(length) => print_figure(length),
+        Listed::More(length, at, _) => {
+            print_figure(length);
+            print(b" more at");
+            print_figure(at);
+        }
+        Listed::Refused(refusal) => {
+            print(b" refused");
+            print_figure(refusals::number_of(refusal));
+        }
+    }
+    print(b"\n");
+}
+
 fn print_text(form: Form, text: &[u8]) {
     match form {
         Form::Seven => print(b"text 7 "),
@@ -202,6 +225,7 @@ fn print_text(form: Form, text: &[u8]) {
     print_answers(form, text);
     print_survey(form, text);
     print_listing(form, text);
+    print_short(form, text);
 }
 
 fn form_named(byte: u8) -> Form {

@@ -9,9 +9,10 @@ use paper::Form;
 use paper::Listed;
 use paper::Reader;
 use paper::Refusal;
+use refusals::LONGEST_TEXT;
 
 // A text may have 65,536 bytes; one byte more shows that it is longer.
-const ROOM: usize = 65537;
+const ROOM: usize = LONGEST_TEXT + 1;
 
 // Lines go out in pieces of up to so many bytes.
 const PIECE: usize = 65536;
@@ -83,9 +84,19 @@ fn print_listing(text: &[u8], form: Form) {
     }
 }
 
+// A read that fails looks like the end of the text; another one tells them apart.
+fn ended() -> bool {
+    let mut byte = [0u8; 1];
+    libc::read(STDIN_FILENO, &mut byte) == 0
+}
+
 fn list_input(form: Form) {
     let mut text = [0u8; ROOM];
     let length = io::read_full(STDIN_FILENO, &mut text);
+    if length < ROOM && !ended() {
+        io::write_all(STDERR_FILENO, b"lister: standard input cannot be read\n");
+        return;
+    }
     print_listing(&text[..length], form);
 }
 

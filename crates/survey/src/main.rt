@@ -8,9 +8,10 @@ use paper::Figures;
 use paper::FirstRefusal;
 use paper::Form;
 use paper::Surveyed;
+use refusals::LONGEST_TEXT;
 
 // A text may have 65,536 bytes; one byte more shows that it is longer.
-const ROOM: usize = 65537;
+const ROOM: usize = LONGEST_TEXT + 1;
 
 enum Chosen {
     Reading(Form),
@@ -88,9 +89,19 @@ fn print_figures(length: usize, figures: Figures) {
     print_end(length, end);
 }
 
+// A read that fails looks like the end of the text; another one tells them apart.
+fn ended() -> bool {
+    let mut byte = [0u8; 1];
+    libc::read(STDIN_FILENO, &mut byte) == 0
+}
+
 fn survey_input(form: Form) {
     let mut text = [0u8; ROOM];
     let length = io::read_full(STDIN_FILENO, &mut text);
+    if length < ROOM && !ended() {
+        io::write_all(STDERR_FILENO, b"survey: standard input cannot be read\n");
+        return;
+    }
     match figures::survey(form, &text[..length]) {
         Surveyed::Has(found) => print_figures(length, found),
         Surveyed::Refused(refusal) => {
