@@ -1,4 +1,4 @@
-// The code table: a byte is made from a column and a row here, and taken apart here, and nowhere else.
+// The code table: a byte is made from a column and a row here and nowhere else, and taken apart into both here.
 use paper::Area;
 use paper::Column;
 use paper::Form;

@@ -99,7 +99,8 @@ fn answer_within(within: Within, byte: u8, reader: Reader) -> Answered
     }
 }
 
-// By the byte's column: C0, GL, C1 or GR.
+// By the byte's column: C0, GL, C1 or GR. The tests are those of `codetable::area_of`, made here so that no area is handed over
+// to be looked at again.
 fn answer_on_ground(byte: u8, reader: Reader) -> Answered
     ensures { λ r. ⌜ r ≡ groundAt (areaOf byte) byte reader ⌝ }
 {
