@@ -80,18 +80,14 @@ listingExamples =
     ("3 designate G2 94x3 60" ∷ "4 shift SS2" ∷ "7 char G2 94x3 60 21 22 23" ∷ "8 char G0 94 42 41" ∷
     "end 9 whole" ∷ []) ∷
     -- several bytes from GR, of 94 type and of 96 type, and from GL
-    eight (0x1B ∷ 0x24 ∷ 0x29 ∷ 0x40 ∷ 0xC1 ∷ 0xC2 ∷ 0x1B ∷ 0x24 ∷ 0x2D ∷ 0x41 ∷ 0xA0 ∷ 0xFF ∷ 0x0E ∷ 0x20 ∷ 0x7F ∷
-    0x1B ∷ 0x2A ∷ 0x42 ∷ 0x8E ∷ 0x41 ∷ [])
+    eight (0x1B ∷ 0x24 ∷ 0x29 ∷ 0x40 ∷ 0xC1 ∷ 0xC2 ∷ 0x1B ∷ 0x24 ∷ 0x2D ∷ 0x41 ∷ 0xA0 ∷ 0xFF ∷ 0x0E ∷ 0x20 ∷ 0x7F ∷ [])
     ("3 designate G1 94x2 40" ∷ "5 char G1 94x2 40 41 42" ∷ "9 designate G1 96x2 41" ∷
-    "11 char G1 96x2 41 20 7F" ∷ "12 shift LS1" ∷ "14 char G1 96x2 41 20 7F" ∷ "17 designate G2 94 42" ∷
-    "18 shift SS2" ∷ "19 char G2 94 42 41" ∷ "end 20 whole" ∷ []) ∷
+    "11 char G1 96x2 41 20 7F" ∷ "12 shift LS1" ∷ "14 char G1 96x2 41 20 7F" ∷ "end 15 whole" ∷ []) ∷
     -- all bytes of one character come from the same area
     eight (0x1B ∷ 0x24 ∷ 0x42 ∷ 0x30 ∷ 0x21 ∷ 0x30 ∷ 0x80 ∷ [])
     ("2 designate G0 94x2 42" ∷ "4 char G0 94x2 42 30 21" ∷ "6 refused 6" ∷ "end 7 lost" ∷ []) ∷
     eight (0x1B ∷ 0x24 ∷ 0x42 ∷ 0x30 ∷ 0xC1 ∷ [])
     ("2 designate G0 94x2 42" ∷ "4 refused 6" ∷ "end 5 lost" ∷ []) ∷
-    eight (0x1B ∷ 0x24 ∷ 0x29 ∷ 0x40 ∷ 0x41 ∷ 0x30 ∷ [])
-    ("3 designate G1 94x2 40" ∷ "4 char G0 94 42 41" ∷ "5 char G0 94 42 30" ∷ "end 6 whole" ∷ []) ∷
     eight (0x1B ∷ 0x24 ∷ 0x29 ∷ 0x40 ∷ 0xC1 ∷ 0x41 ∷ [])
     ("3 designate G1 94x2 40" ∷ "5 refused 6" ∷ "end 6 lost" ∷ []) ∷
     eight (0x1B ∷ 0x24 ∷ 0x29 ∷ 0x40 ∷ 0xC1 ∷ 0x85 ∷ [])

@@ -6,7 +6,6 @@ use mathlib.Core.List.{List, [], _∷_}
 use native.Mathlib.Omega.{arith}
 use lib.Dec.{ltb, eqb}
 use lib.ListN.{length}
-use Rattle.paper.specs.Choice.{_gives_or_}
 use Rattle.paper.specs.Words.{Area, Element, Set, SetByte, OfSpace, OfDelete, OfSet, Outside}
 use Rattle.paper.specs.Words.{SequenceByte, Intermediate, Final, Neither, Intermediates, Meaning}
 use Rattle.paper.specs.Words.{NoMeaning, Function, Shifts, GraphicArea, PositionBytes, Within, Standing, Reader}

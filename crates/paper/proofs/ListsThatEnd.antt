@@ -1,6 +1,6 @@
 -- Bytes that end with others, as a test that computes and as a fact; and the longest beginning of a list with which bytes end,
 -- found by the test: no longer beginning stands there.
-use Prim.Native.Nat.{ℕ, zero, suc, _+_, _-_, _≤_}
+use Prim.Native.Nat.{ℕ, zero, suc, _-_, _≤_}
 use mathlib.Core.Path.{_≡_, refl, sym, ap, _∙_, subst}
 use mathlib.Core.Logic.{⊎-elim}
 use mathlib.Core.Bool.{Bool, true, false}

@@ -1,5 +1,5 @@
 -- What a text gives: folds over its bytes from a reader.
-use Prim.Native.Nat.{ℕ, suc, _+_}
+use Prim.Native.Nat.{ℕ, suc}
 use mathlib.Core.List.{List, [], _∷_, _++_}
 use lib.ListN.{length}
 use Rattle.paper.specs.Choice.{_gives_or_}
