@@ -3,7 +3,9 @@ pub mod OneAnswer
 pub mod Choices
 pub mod MadeAndTakenApart
 pub mod ElementsKeepTheirSets
+pub mod TableOfSequences
 pub mod G0IsNeverOf96Type
+pub mod SevenBitsKeepGR
 pub mod OpeningMakesTheStart
 pub mod FilledPositions
 pub mod ThereAndBack
