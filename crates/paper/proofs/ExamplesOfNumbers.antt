@@ -5,7 +5,7 @@ use mathlib.Core.List.{List, [], _∷_, map}
 use Rattle.paper.specs.Choice.{between, numbers}
 use Rattle.paper.specs.Words.{ControlElement, G0, G1, G2, G3, Of94, Of96, Count, Set, Intermediates, LS0, LS1}
 use Rattle.paper.specs.Words.{LS2, LS3, LS1R, LS2R, LS3R, SS2, SS3, PositionBytes, Refusal, Answer, EndWord}
-use Rattle.paper.specs.Words.{Reader, First, Figures, Surveyed, Listed, Converted}
+use Rattle.paper.specs.Words.{Reader, First, Surveyed, Listed, Converted}
 use Rattle.paper.specs.CodeTable.{byteAt, positionOf}
 use Rattle.paper.specs.Sets.{setByte}
 use Rattle.paper.specs.Starting.{latin, greek}

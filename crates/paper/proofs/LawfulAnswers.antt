@@ -1,12 +1,13 @@
--- What every answer to one byte keeps, by one walk over the definitions: the form stays; a refusal is one of 1 to 6 and leaves
--- the reader lost with the refused byte.
+-- What an answer says of the next reader, by one walk over the definitions. A reader in step answers neither skipped nor instep; it
+-- refuses by 1 to 6 alone and is then lost with the refused byte; after any other answer it is in step. The form stays, and in
+-- 7-bit form GR shows what it showed.
 use Prim.Native.Nat.{ℕ, _-_, _≤_}
 use mathlib.Core.Path.{_≡_, refl, _∙_, subst}
 use mathlib.Core.List.{List, [], _∷_}
 use native.Mathlib.Omega.{arith}
 use lib.Dec.{ltb, eqb}
 use lib.ListN.{length}
-use Rattle.paper.specs.Words.{Area, Element, Set, SetByte, OfSpace, OfDelete, OfSet, Outside}
+use Rattle.paper.specs.Words.{Seven, Area, Element, Set, SetByte, OfSpace, OfDelete, OfSet, Outside}
 use Rattle.paper.specs.Words.{SequenceByte, Intermediate, Final, Neither, Intermediates, Meaning}
 use Rattle.paper.specs.Words.{NoMeaning, Function, Shifts, GraphicArea, PositionBytes, Within, Standing, Reader}
 use Rattle.paper.specs.Words.{Refusal, Answer, Answered}
@@ -16,77 +17,84 @@ use Rattle.paper.specs.Starting.{opening}
 use Rattle.paper.specs.Sequences.{sequenceByte, c1Function, meaningOf}
 use Rattle.paper.specs.Refusals.{numberOf}
 use Rattle.paper.specs.Searching.{matchedWith, oneMore}
-use Rattle.paper.specs.Characters.{lostWith, c0Byte, positionIn, byteIn}
+use Rattle.paper.specs.Characters.{lostWith, refuses, c0Byte, positionIn, byteIn}
 use Rattle.paper.specs.Characters.{bytesSoFar, withByte, character, ofCharacter, firstInGL}
 use Rattle.paper.specs.Answering.{means, intermediate, sequenceAt, groundAt, answerWithin, answerInStep}
 use Rattle.paper.specs.Answering.{answerSearching, answerLost, answerStanding, answerTo}
 use Rattle.paper.specs.Texts.{readerAfter}
-use Rattle.paper.proofs.Choices.{gives-has}
+use Rattle.paper.proofs.Choices.{impossible, gives-has}
+use Rattle.paper.proofs.SevenBitsKeepGR.{KeepsGR, function-keeps-gr, sequence-keeps-gr}
+
+abbrev pub IsInStep : Standing → Type 0
+IsInStep (Standing.InStep w) = Unit {0}
+IsInStep (Standing.Lost k n) = ⊥
 
 module _ (r : Reader) (b : ℕ) where
-  -- a refusal is one of a reader's and leaves it lost
-  abbrev pub AfterRefusal : Answer → Reader → Type 0
-  AfterRefusal Answer.NothingYet next = Unit {0}
-  AfterRefusal (Answer.Char e x p) next = Unit {0}
-  AfterRefusal Answer.Space next = Unit {0}
-  AfterRefusal Answer.Delete next = Unit {0}
-  AfterRefusal (Answer.Control w f n) next = Unit {0}
-  AfterRefusal (Answer.DesignateControls w f) next = Unit {0}
-  AfterRefusal (Answer.Designate e x) next = Unit {0}
-  AfterRefusal (Answer.Shift h) next = Unit {0}
-  AfterRefusal (Answer.Other s f) next = Unit {0}
-  AfterRefusal (Answer.Refused n) next = (numberOf n ≤ 6) × (next ≡ lostWith b r)
-  AfterRefusal Answer.Skipped next = Unit {0}
-  AfterRefusal (Answer.InStep n) next = Unit {0}
+  abbrev pub Leaves : Answer → Reader → Type 0
+  Leaves Answer.NothingYet next = IsInStep (next .standing)
+  Leaves (Answer.Char e x p) next = IsInStep (next .standing)
+  Leaves Answer.Space next = IsInStep (next .standing)
+  Leaves Answer.Delete next = IsInStep (next .standing)
+  Leaves (Answer.Control w f n) next = IsInStep (next .standing)
+  Leaves (Answer.DesignateControls w f) next = IsInStep (next .standing)
+  Leaves (Answer.Designate e x) next = IsInStep (next .standing)
+  Leaves (Answer.Shift h) next = IsInStep (next .standing)
+  Leaves (Answer.Other s f) next = IsInStep (next .standing)
+  Leaves (Answer.Refused n) next = (numberOf n ≤ 6) × (next ≡ lostWith b r)
+  Leaves Answer.Skipped next = ⊥
+  Leaves (Answer.InStep n) next = ⊥
 
   abbrev pub Lawful : Answered → Type 0
-  Lawful a = (a .reader .form ≡ r .form) × AfterRefusal (a .answer) (a .reader)
+  Lawful a = (a .reader .form ≡ r .form) × (r .form ≡ Seven → a .reader .gr ≡ r .gr) × Leaves (a .answer) (a .reader)
+
+  lawful-refusal : (n : Refusal) → numberOf n ≤ 6 → Lawful (refuses n b r)
+  lawful-refusal n h = (refl, λ seven. refl, (h, refl))
 
   lawful-c0 : Lawful (c0Byte b r)
   unfolding c0Byte
   lawful-c0 =
-      gives-has Lawful (eqb b esc) (refl, tt)
-      (gives-has Lawful (eqb b so) (refl, tt) (gives-has Lawful (eqb b si) (refl, tt) (refl, tt)))
+      gives-has Lawful (eqb b esc) (refl, λ seven. refl, tt)
+      (gives-has Lawful (eqb b so) (refl, λ seven. refl, tt) (gives-has Lawful (eqb b si) (refl, λ seven. refl, tt) (refl, λ seven. refl, tt)))
 
   lawful-character : (e : Element) (x : Set) (a : GraphicArea) (p : PositionBytes) → Lawful (character e x a p r)
   unfolding character
-  lawful-character e x a p = gives-has Lawful (ltb (bytesSoFar p) (bytesOf (x .count))) (refl, tt) (refl, tt)
+  lawful-character e x a p = gives-has Lawful (ltb (bytesSoFar p) (bytesOf (x .count))) (refl, λ seven. refl, tt) (refl, λ seven. refl, tt)
 
   lawful-of : (s : SetByte) (e : Element) (x : Set) (a : GraphicArea) (p : PositionBytes) → Lawful (ofCharacter s e x a p b r)
-  lawful-of OfSpace e x a p = (refl, (omega arith, refl))
-  lawful-of OfDelete e x a p = (refl, (omega arith, refl))
+  lawful-of OfSpace e x a p = lawful-refusal Refusal.NotOfSet (omega arith)
+  lawful-of OfDelete e x a p = lawful-refusal Refusal.NotOfSet (omega arith)
   lawful-of OfSet e x a p = lawful-character e x a p
-  lawful-of Outside e x a p = (refl, (omega arith, refl))
+  lawful-of Outside e x a p = lawful-refusal Refusal.AnotherArea (omega arith)
 
   lawful-first : (s : SetByte) (e : Element) (x : Set) → Lawful (firstInGL s e x b r)
-  lawful-first OfSpace e x = (refl, tt)
-  lawful-first OfDelete e x = (refl, tt)
+  lawful-first OfSpace e x = (refl, λ seven. refl, tt)
+  lawful-first OfDelete e x = (refl, λ seven. refl, tt)
   lawful-first OfSet e x = lawful-character e x GraphicArea.GL (PositionBytes.One b)
-  lawful-first Outside e x = (refl, (omega arith, refl))
+  lawful-first Outside e x = lawful-refusal Refusal.AnotherArea (omega arith)
 
-  lawful-means : (w : Meaning) (s : Intermediates) → Lawful (means w s b r)
+  lawful-means : (w : Meaning) (s : Intermediates) → (r .form ≡ Seven → KeepsGR w) → Lawful (means w s b r)
   unfolding means
-  lawful-means NoMeaning s = (refl, (omega arith, refl))
-  lawful-means Meaning.Other s = (refl, tt)
-  lawful-means (Function n) s = (refl, tt)
-  lawful-means (Shifts h) s = (refl, tt)
-  lawful-means (Meaning.DesignateControls w) s = (refl, tt)
-  lawful-means (Meaning.Designate e k n) s = (refl, tt)
+  lawful-means NoMeaning s keeps = lawful-refusal Refusal.WithoutMeaning (omega arith)
+  lawful-means Meaning.Other s keeps = (refl, λ seven. refl, tt)
+  lawful-means (Function n) s keeps = (refl, λ seven. refl, tt)
+  lawful-means (Shifts h) s keeps = (refl, λ seven. keeps seven (r .gr), tt)
+  lawful-means (Meaning.DesignateControls w) s keeps = (refl, λ seven. refl, tt)
+  lawful-means (Meaning.Designate e k n) s keeps = (refl, λ seven. refl, tt)
 
   lawful-intermediate : (s : Intermediates) → Lawful (intermediate s b r)
-  lawful-intermediate Intermediates.None = (refl, tt)
-  lawful-intermediate (Intermediates.One i) = (refl, tt)
-  lawful-intermediate (Intermediates.Two i j) = (refl, (omega arith, refl))
+  lawful-intermediate Intermediates.None = (refl, λ seven. refl, tt)
+  lawful-intermediate (Intermediates.One i) = (refl, λ seven. refl, tt)
+  lawful-intermediate (Intermediates.Two i j) = lawful-refusal Refusal.ThirdIntermediate (omega arith)
 
   lawful-sequence : (k : SequenceByte) (s : Intermediates) → Lawful (sequenceAt k s b r)
   lawful-sequence Intermediate s = lawful-intermediate s
-  lawful-sequence Final s = lawful-means (meaningOf (r .form) s b) s
-  lawful-sequence Neither s = (refl, (omega arith, refl))
+  lawful-sequence Final s = lawful-means (meaningOf (r .form) s b) s (λ seven. sequence-keeps-gr (r .form) seven s b)
+  lawful-sequence Neither s = lawful-refusal Refusal.NotOfSequence (omega arith)
 
   lawful-ground : (a : Area) → Lawful (groundAt a b r)
   lawful-ground Area.C0 = lawful-c0
   lawful-ground Area.GL = let x = setIn (r .sets) (r .gl) in lawful-first (byteIn GraphicArea.GL (x .kind) b) (r .gl) x
-  lawful-ground Area.C1 = lawful-means (c1Function (b - bit8)) Intermediates.None
+  lawful-ground Area.C1 = lawful-means (c1Function (b - bit8)) Intermediates.None (λ seven. function-keeps-gr (b - bit8))
   lawful-ground Area.GR =
       let x = setIn (r .sets) (r .gr) in
       lawful-of (byteIn GraphicArea.GR (x .kind) b) (r .gr) x GraphicArea.GR (PositionBytes.One (positionIn GraphicArea.GR b))
@@ -99,23 +107,41 @@ module _ (r : Reader) (b : ℕ) where
   lawful-within (Within.Character e a p) =
       let x = setIn (r .sets) e in lawful-of (byteIn a (x .kind) b) e x a (withByte p (positionIn a b))
 
-  lawful-searching : (k n : ℕ) → Lawful (answerSearching k n r)
-  lawful-searching k n = gives-has Lawful (eqb k (length (opening (r .form)))) (refl, tt) (refl, tt)
+  pub in-step-lawful : (w : Within) → Lawful (answerInStep w b r)
+  unfolding answerInStep
+  in-step-lawful w =
+      gives-has Lawful (formHas (r .form) b) (lawful-within w) (lawful-refusal Refusal.ByteOfEightBits (omega arith))
 
-  lawful-standing : (s : Standing) → Lawful (answerStanding s b r)
-  unfolding answerInStep answerLost
-  lawful-standing (Standing.InStep w) = gives-has Lawful (formHas (r .form) b) (lawful-within w) (refl, (omega arith, refl))
-  lawful-standing (Standing.Lost k n) = lawful-searching (matchedWith (r .form) k b) (oneMore n)
+  -- a lost reader keeps its form, and does not refuse
+  abbrev LostLawful : Answered → Type 0
+  LostLawful a = (a .reader .form ≡ r .form) × ((n : Refusal) → a .answer ≡ Answer.Refused n → ⊥)
 
-  pub answers-lawful : Lawful (answerTo r b)
-  unfolding answerTo
-  answers-lawful = lawful-standing (r .standing)
+  lost-lawful : (k n : ℕ) → LostLawful (answerSearching k n r)
+  lost-lawful k n =
+      gives-has LostLawful (eqb k (length (opening (r .form)))) (refl, λ m e. impossible (cc)) (refl, λ m e. impossible (cc))
 
-  -- a reader refuses by 1 to 6 alone, and is then lost
+  form-standing : (s : Standing) → answerStanding s b r .reader .form ≡ r .form
+  unfolding answerLost
+  form-standing (Standing.InStep w) = in-step-lawful w .0
+  form-standing (Standing.Lost k n) = lost-lawful (matchedWith (r .form) k b) (oneMore n) .0
+
+  refused-standing : (s : Standing) (n : Refusal) → answerStanding s b r .answer ≡ Answer.Refused n →
+      (numberOf n ≤ 6) × (answerStanding s b r .reader ≡ lostWith b r)
+  unfolding answerLost
+  refused-standing (Standing.InStep w) n e =
+      subst (λ (a : Answer). Leaves a (answerInStep w b r .reader)) e (in-step-lawful w .2)
+  refused-standing (Standing.Lost k c) n e = absurd (lost-lawful (matchedWith (r .form) k b) (oneMore c) .1 n e)
+
+  -- any reader refuses by 1 to 6 alone, and is then lost
   pub refused-lost : (n : Refusal) → answerTo r b .answer ≡ Answer.Refused n → (numberOf n ≤ 6) × (answerTo r b .reader ≡ lostWith b r)
-  refused-lost n e = subst (λ (a : Answer). AfterRefusal a (answerTo r b .reader)) e (answers-lawful .1)
+  unfolding answerTo
+  refused-lost n e = refused-standing (r .standing) n e
+
+  pub form-on : answerTo r b .reader .form ≡ r .form
+  unfolding answerTo
+  form-on = form-standing (r .standing)
 
 -- a text does not change the form
 pub form-after : (l : List ℕ) (r : Reader) → readerAfter r l .form ≡ r .form
 form-after [] r = refl
-form-after (b ∷ bs) r = form-after bs (answerTo r b .reader) ∙ answers-lawful r b .0
+form-after (b ∷ bs) r = form-after bs (answerTo r b .reader) ∙ form-on r b

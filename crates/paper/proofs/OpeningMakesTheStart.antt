@@ -1,26 +1,27 @@
--- Read from the ground, an opening makes the starting state whatever the sets were and whatever was shown, since each of its
--- sequences designates or shifts; in 7-bit form no shift reaches GR, which has shown G1 since the start.
-use mathlib.Core.Path.{_≡_, refl}
-use lib.ListN.{length}
-use Rattle.paper.specs.Choice.{between}
-use Rattle.paper.specs.Words.{Form, Seven, Eight, Element, G1, Sets, Within, Standing, Reader}
-use Rattle.paper.specs.CodeTable.{columnArea, formHasColumn, positionOf}
+-- After an opening the reader is the starting reader, whatever text came before: it was in step, in 7-bit form with G1 in GR, or
+-- lost with what the search needs.
+use Prim.Native.Nat.{ℕ}
+use mathlib.Core.Path.{_≡_, _∙_, subst}
+use mathlib.Core.List.{List, _++_}
+use Rattle.paper.specs.Words.{Form, Standing, Reader}
 use Rattle.paper.specs.Starting.{started, opening}
-use Rattle.paper.specs.Sequences.{sequenceByte, c1Function, shiftOrOther, meaningOfNone, designation}
-use Rattle.paper.specs.Sequences.{byIntermediate, meaningOfOne}
-use Rattle.paper.specs.Characters.{c0Byte}
-use Rattle.paper.specs.Answering.{means, answerInStep, answerTo}
+use Rattle.paper.specs.Characters.{standingAt}
 use Rattle.paper.specs.Texts.{readerAfter}
+use Rattle.paper.proofs.AnOpeningInStep.{from-in-step}
+use Rattle.paper.proofs.AnOpeningWhileLost.{found-at-its-end}
+use Rattle.paper.proofs.LawfulAnswers.{form-after}
+use Rattle.paper.proofs.ReadersThatTextsLeadTo.{KeptIn, Reached, reached}
+use Rattle.paper.proofs.TextsThatGoOn.{reader-on}
 
-abbrev pub onGround : Form → Sets → Element → Element → Reader
-onGround m t l g = record { form = m; sets = t; gl = l; gr = g; standing = Standing.InStep Within.Ground }
+from-reached : (r : Reader) → Reached r → readerAfter r (opening (r .form)) ≡ started (r .form)
+from-reached r h = by (r .standing) (h .keeps)
+  where
+    by : (s : Standing) → KeptIn (r .form) s → readerAfter (standingAt s r) (opening (r .form)) ≡ started (r .form)
+    by (Standing.InStep w) keeps = from-in-step (r .form) w (r .sets) (r .gl) (r .gr) (h .gr-shows-g1)
+    by (Standing.Lost k n) since = found-at-its-end r (since .seen) k n (since .kept)
 
-pub opening-makes-the-start : (t : Sets) (l g : Element) →
-    (readerAfter (onGround Eight t l g) (opening Eight) ≡ started Eight) ×
-    (readerAfter (onGround Seven t l G1) (opening Seven) ≡ started Seven)
-unfolding between columnArea formHasColumn positionOf sequenceByte c1Function shiftOrOther meaningOfNone designation
-    byIntermediate meaningOfOne c0Byte means answerInStep answerTo
-opening-makes-the-start t l g = (refl, refl)
-
-pub opening-length : (length (opening Eight) ≡ 21) × (length (opening Seven) ≡ 20)
-opening-length = (refl, refl)
+pub opening-makes-the-start : (m : Form) (before : List ℕ) → readerAfter (started m) (before ++ opening m) ≡ started m
+opening-makes-the-start m before =
+    let r : Reader = readerAfter (started m) before in
+    reader-on before (opening m) (started m) ∙
+    subst (λ (f : Form). readerAfter r (opening f) ≡ started f) (form-after before (started m)) (from-reached r (reached m before))

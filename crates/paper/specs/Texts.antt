@@ -1,7 +1,8 @@
 -- What a text gives: folds over its bytes from a reader.
-use Prim.Native.Nat.{ℕ, suc}
+use Prim.Native.Nat.{ℕ, suc, _-_}
+use mathlib.Core.Path.{_≡_}
 use mathlib.Core.List.{List, [], _∷_, _++_}
-use lib.ListN.{length}
+use lib.ListN.{drop, length}
 use Rattle.paper.specs.Choice.{_gives_or_}
 use Rattle.paper.specs.Words.{Form, Reader, Answer, EndWord}
 use Rattle.paper.specs.Starting.{started, opening}
@@ -28,6 +29,24 @@ answersOf m l = answersFrom 0 (started m) l
 
 abbrev pub endWord : Form → List ℕ → EndWord
 endWord m l = endOfText (readerAfter (started m) l)
+
+-- the answer to a byte that comes after a text
+abbrev pub answerAfter : Form → List ℕ → ℕ → Answer
+answerAfter m text b = answerTo (readerAfter (started m) text) b .answer
+
+-- the answers to a text that comes after other bytes: those to all of it but the first, counted from the text's own first byte
+abbrev pub countedFrom : ℕ → List Placed → List Placed
+countedFrom n [] = []
+countedFrom n (a ∷ l) = record { offset = a .offset - n; answer = a .answer } ∷ countedFrom n l
+
+abbrev pub answersPast : Form → List ℕ → List ℕ → List Placed
+answersPast m first text = countedFrom (length first) (drop (length first) (answersOf m (first ++ text)))
+
+-- bytes that hold a complete opening: it stands in them unbroken
+pub record Holds (m : Form) (bs : List ℕ) : Type 0 where
+  pub before : List ℕ
+  pub after : List ℕ
+  pub is : bs ≡ before ++ opening m ++ after
 
 -- The search, as the paper says it. Seen are all bytes since the refused one, it included: a byte is skipped until they end
 -- with the opening; that byte answers instep with their number, and what follows is read as from the start.

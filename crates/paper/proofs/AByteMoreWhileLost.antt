@@ -1,0 +1,154 @@
+-- What one byte more does to a lost reader: how much of the opening it has matched is the longest beginning of it with which the
+-- bytes since the refused one end, and that is the whole opening exactly when they end with it. With that byte it answers
+-- instep and is the starting reader; with any other it answers skipped, and has kept the byte.
+use Prim.Native.Nat.{ℕ, zero, suc, _+_, _<_, _≤_}
+use mathlib.Core.Path.{_≡_, refl, sym, ap, _∙_}
+use mathlib.Core.Logic.{⊎-elim}
+use mathlib.Core.Bool.{Bool, true, false}
+use mathlib.Core.List.{List, [], _∷_, _++_, append-assoc}
+use native.Mathlib.Omega.{arith}
+use native.Mathlib.Nat.{eq-or-lt-of-le}
+use borrow.Author.Tests.{leb-true, leb-false, eq-eqb, ne-eqb, lt-ltb, le-ltb}
+use lib.Dec.{leb, ltb}
+use lib.ListN.{take, length, getD, length-append}
+use lib.Seq.{take-suc, take-all, length-take-le}
+use Rattle.paper.specs.Choice.{_gives_or_}
+use Rattle.paper.specs.Words.{Form, Seven, Eight, Standing, Reader, Answer}
+use Rattle.paper.specs.Starting.{started, opening}
+use Rattle.paper.specs.Searching.{endsWith, longest, matchedWith, mostSkipped, skippedBytes, oneMore}
+use Rattle.paper.specs.Characters.{standingAt}
+use Rattle.paper.specs.Answering.{answerLost, answerTo}
+use Rattle.paper.proofs.Choices.{impossible}
+use Rattle.paper.proofs.ListsThatEnd.{Tail, ends-tail, tail-ends, last-byte, shorter, tail-with, tail-of, Longest}
+use Rattle.paper.proofs.ListsThatEnd.{longest-is}
+
+-- ---- the longest beginning, one byte on
+
+module _ (o seen : List ℕ) (k b : ℕ) (now : Longest o seen (length o) k) where
+  -- what was matched, and the byte
+  abbrev came : List ℕ
+  came = take k o ++ (b ∷ [])
+
+  abbrev next : ℕ
+  next = longest o came (length o)
+
+  next-here : Tail (seen ++ (b ∷ [])) (take next o)
+  next-here = tail-of (seen ++ (b ∷ [])) came (take next o) (tail-with seen (take k o) b (now .here)) (longest-is o came (length o) .here)
+
+  next-most : (j : ℕ) → j ≤ length o → Tail (seen ++ (b ∷ [])) (take j o) → j ≤ next
+  next-most zero h t = omega arith
+  next-most (suc j) h t =
+      let d : ℕ = getD o j 0 in
+      let begins : take (suc j) o ≡ take j o ++ (d ∷ []) = take-suc o j 0 (omega arith) in
+      let parts = last-byte seen (t .front ++ take j o) b d
+      (t .is ∙ (ap (λ (x : List ℕ). t .front ++ x) begins ∙ sym (append-assoc (t .front) (take j o) (d ∷ [])))) in
+      let less : j ≤ k = now .most j (omega arith) (record { front = t .front; is = parts .0 }) in
+      let all : k ≤ length o = now .within in
+      let long : length (take j o) ≡ j = length-take-le j o (omega arith) in
+      let longer : length (take k o) ≡ k = length-take-le k o (omega arith) in
+      let inside : Tail (take k o) (take j o) =
+      shorter (now .here .front) (t .front) (take k o) (take j o) (sym (now .here .is) ∙ parts .0) (omega arith) in
+      let both : Tail came (take (suc j) o) = rw (begins, ← (parts .1)) (tail-with (take k o) (take j o) b inside) in
+      longest-is o came (length o) .most (suc j) h both
+
+  next-longest : Longest o (seen ++ (b ∷ [])) (length o) next
+  next-longest = record { here = next-here; within = longest-is o came (length o) .within; most = next-most }
+
+-- ---- the whole opening
+
+module _ (o seen : List ℕ) (k : ℕ) (now : Longest o seen (length o) k) where
+  complete : endsWith seen o ≡ true → k ≡ length o
+  complete e =
+      let most : length o ≤ k = now .most (length o) (omega arith) (rw (take-all (length o) o (omega arith)) (ends-tail seen o e)) in
+      omega (arith, now .within)
+
+  not-yet : endsWith seen o ≡ false → k < length o
+  not-yet e = ⊎-elim
+      (λ all. let there : endsWith seen o ≡ true = tail-ends seen o (rw (take-all k o (omega arith)) at (now .here)) in impossible (cc))
+      (λ less. less)
+      (eq-or-lt-of-le (now .within))
+
+-- ---- the count
+
+count-on : (n : ℕ) → oneMore (skippedBytes n) ≡ skippedBytes (n + 1)
+unfolding oneMore skippedBytes
+count-on n = by (leb n mostSkipped) refl (leb (n + 1) mostSkipped) refl
+  where
+    by : (s : Bool) → leb n mostSkipped ≡ s → (t : Bool) → leb (n + 1) mostSkipped ≡ t →
+        (ltb (s gives n or mostSkipped) mostSkipped gives (s gives n or mostSkipped) + 1 or mostSkipped) ≡
+        (t gives n + 1 or mostSkipped)
+    by true p true q = let h : n < mostSkipped = omega (arith, leb-true) in rw (lt-ltb n mostSkipped h)
+    by true p false q = let h : mostSkipped ≤ n = omega (arith, leb-false) in rw (le-ltb n mostSkipped h)
+    by false p true q =
+        let h : mostSkipped < n = leb-false n mostSkipped p in
+        let k : n + 1 ≤ mostSkipped = leb-true (n + 1) mostSkipped q in
+        absurd (omega arith)
+    by false p false q = refl
+
+-- ---- a lost reader
+
+-- what a lost reader keeps of the bytes since the refused one
+pub record Kept (m : Form) (seen : List ℕ) (k n : ℕ) : Type 0 where
+  pub short : k < length (opening m)
+  pub matched : Longest (opening m) seen (length (opening m)) k
+  pub counted : n ≡ skippedBytes (length seen)
+
+abbrev pub lost : Reader → ℕ → ℕ → Reader
+lost r k n = standingAt (Standing.Lost k n) r
+
+-- one byte more: the opening is complete with it, or the search goes on
+module _ (r : Reader) (seen : List ℕ) (k n b : ℕ) (kept : Kept (r .form) seen k n) where
+  abbrev all : List ℕ
+  all = seen ++ (b ∷ [])
+
+  now-longest : Longest (opening (r .form)) all (length (opening (r .form))) (matchedWith (r .form) k b)
+  unfolding matchedWith
+  now-longest = next-longest (opening (r .form)) seen k b (kept .matched)
+
+  now-counted : oneMore n ≡ skippedBytes (length all)
+  now-counted = rw (kept .counted) (count-on (length seen)) ∙ ap skippedBytes (sym (length-append seen (b ∷ [])))
+
+  pub found : endsWith all (opening (r .form)) ≡ true →
+      answerTo (lost r k n) b ≡ record { answer = Answer.InStep (skippedBytes (length all)); reader = started (r .form) }
+  unfolding answerTo answerLost
+  found e =
+      rw (
+        eq-eqb (matchedWith (r .form) k b) (length (opening (r .form)))
+            (complete (opening (r .form)) all (matchedWith (r .form) k b) now-longest e),
+        now-counted,
+      )
+
+  pub still-kept : endsWith all (opening (r .form)) ≡ false → Kept (r .form) all (matchedWith (r .form) k b) (oneMore n)
+  still-kept e = record {
+    short = not-yet (opening (r .form)) all (matchedWith (r .form) k b) now-longest e;
+    matched = now-longest;
+    counted = now-counted;
+  }
+
+  pub not-found : endsWith all (opening (r .form)) ≡ false →
+      answerTo (lost r k n) b ≡ record { answer = Answer.Skipped; reader = lost r (matchedWith (r .form) k b) (oneMore n) }
+  unfolding answerTo answerLost
+  not-found e =
+      let less : matchedWith (r .form) k b < length (opening (r .form)) = still-kept e .short in
+      rw (ne-eqb (matchedWith (r .form) k b) (length (opening (r .form))) (λ q. absurd (omega arith)))
+
+-- ---- it begins with nothing, and then the refused byte
+
+none-seen : (o : List ℕ) → Longest o [] (length o) 0
+none-seen o = record {
+  here = record { front = []; is = refl };
+  within = omega arith;
+  most = λ j h t.
+      let n : length (take j o) ≡ j = length-take-le j o h in
+      omega (arith, length-append (t .front) (take j o), ap length (t .is));
+}
+
+pub kept-none : (m : Form) → Kept m [] 0 0
+unfolding skippedBytes
+kept-none Seven = record { short = omega arith; matched = none-seen (opening Seven); counted = refl }
+kept-none Eight = record { short = omega arith; matched = none-seen (opening Eight); counted = refl }
+
+-- one byte is not yet an opening
+pub kept-first : (m : Form) (b : ℕ) → Kept m (b ∷ []) (matchedWith m 0 b) (oneMore 0)
+kept-first Seven b = still-kept (started Seven) [] 0 0 b (kept-none Seven) refl
+kept-first Eight b = still-kept (started Eight) [] 0 0 b (kept-none Eight) refl

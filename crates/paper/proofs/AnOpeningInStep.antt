@@ -1,0 +1,48 @@
+-- An opening that comes to a reader in step makes it the starting reader, as is computed. On the ground each sequence of it designates
+-- or shifts, so that sets, GL and GR are those of the start; in 7-bit form no shift reaches GR, which must show G1 before.
+-- Inside a sequence, after a single shift and inside a character its first byte is refused, and the search that begins with this
+-- byte finds it.
+use mathlib.Core.Path.{_≡_, refl, ap, _∙_}
+use lib.ListN.{length}
+use Rattle.paper.specs.Choice.{between}
+use Rattle.paper.specs.Words.{Form, Seven, Eight, Element, G1, Sets, GraphicArea, Within, Standing, Reader}
+use Rattle.paper.specs.CodeTable.{columnArea, formHasColumn, positionOf}
+use Rattle.paper.specs.Sets.{setByte}
+use Rattle.paper.specs.Starting.{started, opening}
+use Rattle.paper.specs.Sequences.{sequenceByte, c1Function, shiftOrOther, meaningOfNone, designation}
+use Rattle.paper.specs.Sequences.{byIntermediate, meaningOfOne}
+use Rattle.paper.specs.Characters.{c0Byte, byteIn}
+use Rattle.paper.specs.Searching.{matchedWith, oneMore}
+use Rattle.paper.specs.Answering.{means, answerInStep, answerLost, answerTo}
+use Rattle.paper.specs.Texts.{readerAfter}
+
+abbrev pub reading : Form → Sets → Element → Element → Within → Reader
+reading m t l g w = record { form = m; sets = t; gl = l; gr = g; standing = Standing.InStep w }
+
+-- what GR can show: in 7-bit form G1 alone
+abbrev shownInGR : Form → Element → Element
+shownInGR Seven e = G1
+shownInGR Eight e = e
+
+computed : (m : Form) (w : Within) (t : Sets) (l g : Element) → readerAfter (reading m t l (shownInGR m g) w) (opening m) ≡ started m
+unfolding between columnArea formHasColumn positionOf setByte sequenceByte c1Function shiftOrOther meaningOfNone designation
+    byIntermediate meaningOfOne matchedWith oneMore c0Byte byteIn means answerInStep answerLost answerTo
+computed Seven Within.Ground t l g = refl
+computed Seven (Within.Sequence s) t l g = refl
+computed Seven (Within.SingleShift e) t l g = refl
+computed Seven (Within.Character e GraphicArea.GL p) t l g = refl
+computed Seven (Within.Character e GraphicArea.GR p) t l g = refl
+computed Eight Within.Ground t l g = refl
+computed Eight (Within.Sequence s) t l g = refl
+computed Eight (Within.SingleShift e) t l g = refl
+computed Eight (Within.Character e GraphicArea.GL p) t l g = refl
+computed Eight (Within.Character e GraphicArea.GR p) t l g = refl
+
+pub from-in-step : (m : Form) (w : Within) (t : Sets) (l g : Element) → (m ≡ Seven → g ≡ G1) →
+    readerAfter (reading m t l g w) (opening m) ≡ started m
+from-in-step Seven w t l g shows =
+    ap (λ (e : Element). readerAfter (reading Seven t l e w) (opening Seven)) (shows refl) ∙ computed Seven w t l g
+from-in-step Eight w t l g shows = computed Eight w t l g
+
+pub opening-length : (length (opening Eight) ≡ 21) × (length (opening Seven) ≡ 20)
+opening-length = (refl, refl)
