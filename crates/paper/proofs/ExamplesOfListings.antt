@@ -205,6 +205,12 @@ listingExamples =
     "end 64 whole" ∷ []) ∷
     seven ((0x1B ∷ 0x7F ∷ []) ++ opening Eight)
     ("1 refused 2" ∷ "end 23 lost" ∷ []) ∷
+    -- a name, a sequence that the line cut short, a name; an opening, a name
+    seven ((0x0E ∷ 0x41 ∷ 0x42 ∷ 0x0F ∷ 0x1B ∷ 0x28 ∷ 0x0E ∷ 0x41 ∷ 0x42 ∷ 0x0F ∷ []) ++ opening Seven ++
+    (0x0E ∷ 0x41 ∷ 0x42 ∷ 0x0F ∷ []))
+    ("0 shift LS1" ∷ "1 char G1 96 46 41" ∷ "2 char G1 96 46 42" ∷ "3 shift LS0" ∷ "6 refused 2" ∷
+    "29 instep 24" ∷ "30 shift LS1" ∷ "31 char G1 96 46 41" ∷ "32 char G1 96 46 42" ∷ "33 shift LS0" ∷
+    "end 34 whole" ∷ []) ∷
     []
 
 pub listings-hold : map (λ (x : Example). listing (x .form) (x .bytes)) listingExamples ≡
