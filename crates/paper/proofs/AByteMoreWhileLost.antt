@@ -1,6 +1,7 @@
--- What one byte more does to a lost reader: how much of the opening it has matched is the longest beginning of it with which the
--- bytes since the refused one end, and that is the whole opening exactly when they end with it. With that byte it answers
--- instep and is the starting reader; with any other it answers skipped, and has kept the byte.
+-- What one byte more does to a lost reader. How much of the opening it has matched is the longest beginning of it with which the
+-- bytes since the refused one end: a beginning with which they end now was, less its last byte, such an end before, and so lies
+-- within what was matched. That is the whole opening exactly when they end with it. With that byte the reader answers instep and is the
+-- starting reader; with any other it answers skipped, and has kept the byte.
 use Prim.Native.Nat.{ℕ, zero, suc, _+_, _<_, _≤_}
 use mathlib.Core.Path.{_≡_, refl, sym, ap, _∙_}
 use mathlib.Core.Logic.{⊎-elim}
@@ -9,11 +10,11 @@ use mathlib.Core.List.{List, [], _∷_, _++_, append-assoc}
 use native.Mathlib.Omega.{arith}
 use native.Mathlib.Nat.{eq-or-lt-of-le}
 use borrow.Author.Tests.{leb-true, leb-false, eq-eqb, ne-eqb, lt-ltb, le-ltb}
-use lib.Dec.{leb, ltb}
+use lib.Dec.{leb, ltb, eqb}
 use lib.ListN.{take, length, getD, length-append}
 use lib.Seq.{take-suc, take-all, length-take-le}
 use Rattle.paper.specs.Choice.{_gives_or_}
-use Rattle.paper.specs.Words.{Form, Seven, Eight, Standing, Reader, Answer}
+use Rattle.paper.specs.Words.{Form, Standing, Reader, Answer, Answered}
 use Rattle.paper.specs.Starting.{started, opening}
 use Rattle.paper.specs.Searching.{endsWith, longest, matchedWith, mostSkipped, skippedBytes, oneMore}
 use Rattle.paper.specs.Characters.{standingAt}
@@ -89,7 +90,6 @@ count-on n = by (leb n mostSkipped) refl (leb (n + 1) mostSkipped) refl
 
 -- what a lost reader keeps of the bytes since the refused one
 pub record Kept (m : Form) (seen : List ℕ) (k n : ℕ) : Type 0 where
-  pub short : k < length (opening m)
   pub matched : Longest (opening m) seen (length (opening m)) k
   pub counted : n ≡ skippedBytes (length seen)
 
@@ -101,36 +101,40 @@ module _ (r : Reader) (seen : List ℕ) (k n b : ℕ) (kept : Kept (r .form) see
   abbrev all : List ℕ
   all = seen ++ (b ∷ [])
 
-  now-longest : Longest (opening (r .form)) all (length (opening (r .form))) (matchedWith (r .form) k b)
+  abbrev now : ℕ
+  now = matchedWith (r .form) k b
+
+  now-longest : Longest (opening (r .form)) all (length (opening (r .form))) now
   unfolding matchedWith
   now-longest = next-longest (opening (r .form)) seen k b (kept .matched)
 
   now-counted : oneMore n ≡ skippedBytes (length all)
   now-counted = rw (kept .counted) (count-on (length seen)) ∙ ap skippedBytes (sym (length-append seen (b ∷ [])))
 
+  abbrev whether : Bool → Answered
+  whether complete =
+      complete gives record { answer = Answer.InStep (oneMore n); reader = started (r .form) } or
+      record { answer = Answer.Skipped; reader = lost r now (oneMore n) }
+
+  by-the-match : answerTo (lost r k n) b ≡ whether (eqb now (length (opening (r .form))))
+  unfolding answerTo answerLost
+  by-the-match = refl
+
   pub found : endsWith all (opening (r .form)) ≡ true →
       answerTo (lost r k n) b ≡ record { answer = Answer.InStep (skippedBytes (length all)); reader = started (r .form) }
-  unfolding answerTo answerLost
   found e =
-      rw (
-        eq-eqb (matchedWith (r .form) k b) (length (opening (r .form)))
-            (complete (opening (r .form)) all (matchedWith (r .form) k b) now-longest e),
-        now-counted,
-      )
-
-  pub still-kept : endsWith all (opening (r .form)) ≡ false → Kept (r .form) all (matchedWith (r .form) k b) (oneMore n)
-  still-kept e = record {
-    short = not-yet (opening (r .form)) all (matchedWith (r .form) k b) now-longest e;
-    matched = now-longest;
-    counted = now-counted;
-  }
+      by-the-match ∙
+      (ap whether (eq-eqb now (length (opening (r .form))) (complete (opening (r .form)) all now now-longest e)) ∙
+      ap (λ (c : ℕ). record { answer = Answer.InStep c; reader = started (r .form) }) now-counted)
 
   pub not-found : endsWith all (opening (r .form)) ≡ false →
-      answerTo (lost r k n) b ≡ record { answer = Answer.Skipped; reader = lost r (matchedWith (r .form) k b) (oneMore n) }
-  unfolding answerTo answerLost
+      answerTo (lost r k n) b ≡ record { answer = Answer.Skipped; reader = lost r now (oneMore n) }
   not-found e =
-      let less : matchedWith (r .form) k b < length (opening (r .form)) = still-kept e .short in
-      rw (ne-eqb (matchedWith (r .form) k b) (length (opening (r .form))) (λ q. absurd (omega arith)))
+      let less : now < length (opening (r .form)) = not-yet (opening (r .form)) all now now-longest e in
+      by-the-match ∙ ap whether (ne-eqb now (length (opening (r .form))) (λ q. absurd (omega arith)))
+
+  pub still-kept : Kept (r .form) all now (oneMore n)
+  still-kept = record { matched = now-longest; counted = now-counted }
 
 -- ---- it begins with nothing, and then the refused byte
 
@@ -143,12 +147,9 @@ none-seen o = record {
       omega (arith, length-append (t .front) (take j o), ap length (t .is));
 }
 
-pub kept-none : (m : Form) → Kept m [] 0 0
+kept-none : (m : Form) → Kept m [] 0 0
 unfolding skippedBytes
-kept-none Seven = record { short = omega arith; matched = none-seen (opening Seven); counted = refl }
-kept-none Eight = record { short = omega arith; matched = none-seen (opening Eight); counted = refl }
+kept-none m = record { matched = none-seen (opening m); counted = refl }
 
--- one byte is not yet an opening
 pub kept-first : (m : Form) (b : ℕ) → Kept m (b ∷ []) (matchedWith m 0 b) (oneMore 0)
-kept-first Seven b = still-kept (started Seven) [] 0 0 b (kept-none Seven) refl
-kept-first Eight b = still-kept (started Eight) [] 0 0 b (kept-none Eight) refl
+kept-first m b = still-kept (started m) [] 0 0 b (kept-none m)

@@ -3,7 +3,6 @@
 -- Inside a sequence, after a single shift and inside a character its first byte is refused, and the search that begins with this
 -- byte finds it.
 use mathlib.Core.Path.{_≡_, refl, ap, _∙_}
-use lib.ListN.{length}
 use Rattle.paper.specs.Choice.{between}
 use Rattle.paper.specs.Words.{Form, Seven, Eight, Element, G1, Sets, GraphicArea, Within, Standing, Reader}
 use Rattle.paper.specs.CodeTable.{columnArea, formHasColumn, positionOf}
@@ -16,7 +15,7 @@ use Rattle.paper.specs.Searching.{matchedWith, oneMore}
 use Rattle.paper.specs.Answering.{means, answerInStep, answerLost, answerTo}
 use Rattle.paper.specs.Texts.{readerAfter}
 
-abbrev pub reading : Form → Sets → Element → Element → Within → Reader
+abbrev reading : Form → Sets → Element → Element → Within → Reader
 reading m t l g w = record { form = m; sets = t; gl = l; gr = g; standing = Standing.InStep w }
 
 -- what GR can show: in 7-bit form G1 alone
@@ -43,6 +42,3 @@ pub from-in-step : (m : Form) (w : Within) (t : Sets) (l g : Element) → (m ≡
 from-in-step Seven w t l g shows =
     ap (λ (e : Element). readerAfter (reading Seven t l e w) (opening Seven)) (shows refl) ∙ computed Seven w t l g
 from-in-step Eight w t l g shows = computed Eight w t l g
-
-pub opening-length : (length (opening Eight) ≡ 21) × (length (opening Seven) ≡ 20)
-opening-length = (refl, refl)

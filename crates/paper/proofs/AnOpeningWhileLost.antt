@@ -14,7 +14,7 @@ use Rattle.paper.specs.Answering.{answerTo}
 use Rattle.paper.specs.Texts.{readerAfter}
 use Rattle.paper.proofs.AByteMoreWhileLost.{Kept, lost, found, not-found, still-kept}
 use Rattle.paper.proofs.ListsThatEnd.{tail-ends}
-use Rattle.paper.proofs.OpeningsDoNotOverlap.{not-complete-inside}
+use Rattle.paper.proofs.OpeningsAmongBytes.{not-complete-inside}
 use Rattle.paper.proofs.TextsThatGoOn.{reader-on}
 
 -- with none of these bytes, after those seen, is an opening complete
@@ -22,7 +22,7 @@ abbrev pub NoneComplete : Form → List ℕ → List ℕ → Type 0
 NoneComplete m seen bs = (j : ℕ) → j < length bs → endsWith (seen ++ take (suc j) bs) (opening m) ≡ false
 
 -- a reader that got lost as r and has seen these bytes since, the refused one first
-pub record LostWith (r : Reader) (seen : List ℕ) (now : Reader) : Type 0 where
+pub record LostSince (r : Reader) (seen : List ℕ) (now : Reader) : Type 0 where
   pub matched : ℕ
   pub skipped : ℕ
   pub is : now ≡ lost r matched skipped
@@ -30,8 +30,8 @@ pub record LostWith (r : Reader) (seen : List ℕ) (now : Reader) : Type 0 where
 
 module _ (r : Reader) where
   one-more-seen : (b : ℕ) (bs seen : List ℕ) (k n : ℕ) → Kept (r .form) seen k n → endsWith (seen ++ (b ∷ [])) (opening (r .form)) ≡ false →
-      LostWith r ((seen ++ (b ∷ [])) ++ bs) (readerAfter (lost r (matchedWith (r .form) k b) (oneMore n)) bs) →
-      LostWith r (seen ++ b ∷ bs) (readerAfter (lost r k n) (b ∷ bs))
+      LostSince r ((seen ++ (b ∷ [])) ++ bs) (readerAfter (lost r (matchedWith (r .form) k b) (oneMore n)) bs) →
+      LostSince r (seen ++ b ∷ bs) (readerAfter (lost r k n) (b ∷ bs))
   one-more-seen b bs seen k n kept not-here rest = record {
     matched = rest .matched;
     skipped = rest .skipped;
@@ -40,7 +40,7 @@ module _ (r : Reader) where
   }
 
   pub stays-lost : (bs seen : List ℕ) (k n : ℕ) → Kept (r .form) seen k n → NoneComplete (r .form) seen bs →
-      LostWith r (seen ++ bs) (readerAfter (lost r k n) bs)
+      LostSince r (seen ++ bs) (readerAfter (lost r k n) bs)
   stays-lost [] seen k n kept none = record {
     matched = k;
     skipped = n;
@@ -50,7 +50,7 @@ module _ (r : Reader) where
   stays-lost (b ∷ bs) seen k n kept none =
       let not-here : endsWith (seen ++ (b ∷ [])) (opening (r .form)) ≡ false = none 0 (omega arith) in
       one-more-seen b bs seen k n kept not-here
-      (stays-lost bs (seen ++ (b ∷ [])) (matchedWith (r .form) k b) (oneMore n) (still-kept r seen k n b kept not-here)
+      (stays-lost bs (seen ++ (b ∷ [])) (matchedWith (r .form) k b) (oneMore n) (still-kept r seen k n b kept)
       (λ j h. rw (append-assoc seen (b ∷ []) (take (suc j) bs)) (none (suc j) (omega arith))))
 
 -- ---- the opening
@@ -73,13 +73,13 @@ module _ (r : Reader) (seen : List ℕ) (k n : ℕ) (kept : Kept (r .form) seen 
       rw (take-take (suc j) (lastAt (r .form)) (opening (r .form)) (omega arith))
       (not-complete-inside (r .form) seen (suc j) (omega arith) (omega arith))
 
-  lost-until-then : LostWith r (seen ++ front) (readerAfter (lost r k n) front)
+  lost-until-then : LostSince r (seen ++ front) (readerAfter (lost r k n) front)
   lost-until-then = stays-lost r front seen k n kept none-inside
 
   pub found-at-its-end : readerAfter (lost r k n) (opening (r .form)) ≡ started (r .form)
   found-at-its-end =
       let last : ℕ = getD (opening (r .form)) (lastAt (r .form)) 0 in
-      let h : LostWith r (seen ++ front) (readerAfter (lost r k n) front) = lost-until-then in
+      let h : LostSince r (seen ++ front) (readerAfter (lost r k n) front) = lost-until-then in
       let whole : endsWith ((seen ++ front) ++ (last ∷ [])) (opening (r .form)) ≡ true =
       tail-ends ((seen ++ front) ++ (last ∷ [])) (opening (r .form)) (record {
         front = seen;

@@ -16,14 +16,14 @@ pub mod TextsThatGoOn
 pub mod OffsetsOfALaterText
 pub mod AByteMoreWhileLost
 pub mod LostReadersSearch
-pub mod OpeningsDoNotOverlap
+pub mod OpeningsAmongBytes
 pub mod AnOpeningWhileLost
 pub mod AnOpeningInStep
 pub mod LostSinceARefusal
 pub mod ReadersThatTextsLeadTo
 pub mod OpeningMakesTheStart
 pub mod SilenceAndInStepAgain
-pub mod InStepAgainWorked
+pub mod SilenceAndInStepAgainWorked
 pub mod ListingInPieces
 pub mod Examples
 pub mod ExamplesOfListings

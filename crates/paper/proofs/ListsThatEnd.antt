@@ -51,6 +51,13 @@ tail-ends w p t =
     let n : length u ≡ length (u ++ p) - length p = omega (arith, length-append u p) in
     rw (t .is, drop-at u p (length (u ++ p) - length p) n) (same-self p)
 
+pub no-tail : (w p : List ℕ) → (Tail w p → ⊥) → endsWith w p ≡ false
+no-tail w p none = by (endsWith w p) refl
+  where
+    by : (t : Bool) → endsWith w p ≡ t → t ≡ false
+    by true e = absurd (none (ends-tail w p e))
+    by false e = refl
+
 -- the last byte, and what stands before it
 pub last-byte : (xs ys : List ℕ) (a b : ℕ) → xs ++ (a ∷ []) ≡ ys ++ (b ∷ []) → (xs ≡ ys) × (a ≡ b)
 last-byte [] [] a b e = (refl, cc)

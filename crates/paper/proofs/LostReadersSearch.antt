@@ -9,7 +9,7 @@ use Rattle.paper.specs.Words.{Form, Reader, Refusal, Answer}
 use Rattle.paper.specs.Starting.{started, opening}
 use Rattle.paper.specs.Searching.{endsWith, matchedWith, oneMore}
 use Rattle.paper.specs.Answering.{answerTo}
-use Rattle.paper.specs.Texts.{Placed, readerAfter, answersFrom, answersOf, searched}
+use Rattle.paper.specs.Texts.{Placed, readerAfter, answersFrom, answersOf, answerAfter, searched}
 use Rattle.paper.proofs.AByteMoreWhileLost.{Kept, lost, found, not-found, still-kept, kept-first}
 use Rattle.paper.proofs.LawfulAnswers.{refused-lost, form-after}
 use Rattle.paper.proofs.TextsThatGoOn.{answers-on}
@@ -17,23 +17,22 @@ use Rattle.paper.proofs.TextsThatGoOn.{answers-on}
 abbrev placed : ℕ → Answer → Placed
 placed at a = record { offset = at; answer = a }
 
-pub lost-searches : (r : Reader) (bs : List ℕ) (at : ℕ) (seen : List ℕ) (k n : ℕ) → Kept (r .form) seen k n →
+lost-searches : (r : Reader) (bs : List ℕ) (at : ℕ) (seen : List ℕ) (k n : ℕ) → Kept (r .form) seen k n →
     answersFrom at (lost r k n) bs ≡ searched (r .form) at seen bs
 unfolding searched
 lost-searches r [] at seen k n kept = refl
 lost-searches r (b ∷ bs) at seen k n kept =
     by (endsWith (seen ++ (b ∷ [])) (opening (r .form))) refl
-    (λ more. lost-searches r bs (suc at) (seen ++ (b ∷ [])) (matchedWith (r .form) k b) (oneMore n) more)
+    (lost-searches r bs (suc at) (seen ++ (b ∷ [])) (matchedWith (r .form) k b) (oneMore n) (still-kept r seen k n b kept))
   where
     by : (t : Bool) → endsWith (seen ++ (b ∷ [])) (opening (r .form)) ≡ t →
-        (Kept (r .form) (seen ++ (b ∷ [])) (matchedWith (r .form) k b) (oneMore n) →
-        answersFrom (suc at) (lost r (matchedWith (r .form) k b) (oneMore n)) bs ≡ searched (r .form) (suc at) (seen ++ (b ∷ [])) bs) →
+        answersFrom (suc at) (lost r (matchedWith (r .form) k b) (oneMore n)) bs ≡ searched (r .form) (suc at) (seen ++ (b ∷ [])) bs →
         answersFrom at (lost r k n) (b ∷ bs) ≡ searched (r .form) at seen (b ∷ bs)
     by true e rest = rw (found r seen k n b kept e, e)
-    by false e rest = rw (not-found r seen k n b kept e, e, rest (still-kept r seen k n b kept e))
+    by false e rest = rw (not-found r seen k n b kept e, e, rest)
 
 -- any reader that refuses a byte
-pub search-from : (r : Reader) (b : ℕ) (n : Refusal) (at : ℕ) (bs : List ℕ) → answerTo r b .answer ≡ Answer.Refused n →
+search-from : (r : Reader) (b : ℕ) (n : Refusal) (at : ℕ) (bs : List ℕ) → answerTo r b .answer ≡ Answer.Refused n →
     answersFrom at r (b ∷ bs) ≡ placed at (Answer.Refused n) ∷ searched (r .form) (suc at) (b ∷ []) bs
 search-from r b n at bs e =
     rw (e, refused-lost r b n e .1)
@@ -42,7 +41,7 @@ search-from r b n at bs e =
 
 -- after any text: the byte that is refused, then the search, which begins with it
 pub search-after : (m : Form) (l : List ℕ) (b : ℕ) (n : Refusal) (bs : List ℕ) →
-    answerTo (readerAfter (started m) l) b .answer ≡ Answer.Refused n →
+    answerAfter m l b ≡ Answer.Refused n →
     answersOf m (l ++ b ∷ bs) ≡ answersOf m l ++ placed (length l) (Answer.Refused n) ∷ searched m (suc (length l)) (b ∷ []) bs
 search-after m l b n bs e =
     let r : Reader = readerAfter (started m) l in

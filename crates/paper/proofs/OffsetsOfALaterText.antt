@@ -1,32 +1,28 @@
--- The answers to a text that comes after other bytes are those from where these bytes led, with offsets counted from its own first
--- byte: as many answers come first as there are bytes, and each offset is counted from there.
-use Prim.Native.Nat.{ℕ, suc, _+_, _-_}
+-- A text that comes after other bytes gets the answers that it gets from where these bytes led, each as many bytes later as these bytes
+-- are.
+use Prim.Native.Nat.{ℕ, suc, _+_}
 use mathlib.Core.Path.{_≡_, refl, sym, ap, _∙_}
-use mathlib.Core.List.{List, [], _∷_}
-use native.Mathlib.Omega.{arith}
+use mathlib.Core.List.{List, [], _∷_, _++_}
 use native.Mathlib.Nat.{zero-add, add-zero, add-suc}
 use lib.ListN.{length}
-use lib.Seq.{drop-at}
 use Rattle.paper.specs.Words.{Form, Reader}
 use Rattle.paper.specs.Starting.{started}
 use Rattle.paper.specs.Answering.{answerTo}
-use Rattle.paper.specs.Texts.{Placed, readerAfter, answersFrom, answersOf, countedFrom, answersPast}
+use Rattle.paper.specs.Texts.{Placed, readerAfter, answersFrom, answersOf, later}
 use Rattle.paper.proofs.TextsThatGoOn.{answers-on}
 
-as-many : (l : List ℕ) (at : ℕ) (r : Reader) → length (answersFrom at r l) ≡ length l
-as-many [] at r = refl
-as-many (b ∷ bs) at r = ap suc (as-many bs (suc at) (answerTo r b .reader))
+answered-later : (l : List ℕ) (n at : ℕ) (r : Reader) → answersFrom (n + at) r l ≡ later n (answersFrom at r l)
+answered-later [] n at r = refl
+answered-later (b ∷ bs) n at r =
+    ap (λ (l : List Placed). record { offset = n + at; answer = answerTo r b .answer } ∷ l)
+    (ap (λ (i : ℕ). answersFrom i (answerTo r b .reader) bs) (sym (add-suc n at)) ∙
+    answered-later bs n (suc at) (answerTo r b .reader))
 
-counted-again : (l : List ℕ) (n at : ℕ) (r : Reader) → countedFrom n (answersFrom (n + at) r l) ≡ answersFrom at r l
-counted-again [] n at r = refl
-counted-again (b ∷ bs) n at r =
-    let back : n + at - n ≡ at = omega arith in
-    rw (back, ← (add-suc n at)) (ap (λ (l : List Placed). record { offset = at; answer = answerTo r b .answer } ∷ l)
-    (counted-again bs n (suc at) (answerTo r b .reader)))
-
-pub answers-past : (m : Form) (first text : List ℕ) → answersPast m first text ≡ answersFrom 0 (readerAfter (started m) first) text
-answers-past m first text =
-    let n : ℕ = length first in
+pub answers-of-a-later-text : (m : Form) (first text : List ℕ) →
+    answersOf m (first ++ text) ≡ answersOf m first ++ later (length first) (answersFrom 0 (readerAfter (started m) first) text)
+answers-of-a-later-text m first text =
     let r : Reader = readerAfter (started m) first in
-    rw (answers-on first text 0 (started m), drop-at (answersOf m first) (answersFrom (0 + n) r text) n (as-many first 0 (started m)))
-    (ap (λ (at : ℕ). countedFrom n (answersFrom at r text)) (zero-add n ∙ sym (add-zero n)) ∙ counted-again text n 0 r)
+    answers-on first text 0 (started m) ∙
+    ap (λ (l : List Placed). answersOf m first ++ l)
+    (ap (λ (at : ℕ). answersFrom at r text) (zero-add (length first) ∙ sym (add-zero (length first))) ∙
+    answered-later text (length first) 0 r)

@@ -1,5 +1,5 @@
 -- What every reader has that a text leads to, by what each answer leaves. In 7-bit form GR shows G1, as at the start: nothing moves
--- it there. A lost reader keeps of some bytes, the refused one first, what the search needs.
+-- it there. A lost reader keeps what the search needs of the bytes that it has seen.
 use Prim.Native.Nat.{ℕ}
 use mathlib.Core.Path.{_≡_, refl, sym, _∙_, subst}
 use mathlib.Core.Bool.{Bool, true, false}
@@ -50,30 +50,30 @@ module _ (r : Reader) (b : ℕ) where
 -- ---- after any answer
 
 -- of the reader after it, in terms of the form before it
-abbrev Reaches : Reader → Answered → Type 0
-Reaches r a = (r .form ≡ Seven → a .reader .gr ≡ G1) × KeptIn (r .form) (a .reader .standing)
+abbrev AfterAnswer : Reader → Answered → Type 0
+AfterAnswer r a = (r .form ≡ Seven → a .reader .gr ≡ G1) × KeptIn (r .form) (a .reader .standing)
 
 module _ (r : Reader) (b : ℕ) (g : r .form ≡ Seven → r .gr ≡ G1) where
-  reaches-lost : (k n : ℕ) → Since (r .form) k n → Reaches r (answerTo (lost r k n) b)
-  reaches-lost k n since = by (endsWith (since .seen ++ (b ∷ [])) (opening (r .form))) refl
+  after-lost : (k n : ℕ) → Since (r .form) k n → AfterAnswer r (answerTo (lost r k n) b)
+  after-lost k n since = by (endsWith (since .seen ++ (b ∷ [])) (opening (r .form))) refl
     where
-      by : (t : Bool) → endsWith (since .seen ++ (b ∷ [])) (opening (r .form)) ≡ t → Reaches r (answerTo (lost r k n) b)
-      by true e = subst (Reaches r) (sym (found r (since .seen) k n b (since .kept) e)) (λ seven. refl, tt)
+      by : (t : Bool) → endsWith (since .seen ++ (b ∷ [])) (opening (r .form)) ≡ t → AfterAnswer r (answerTo (lost r k n) b)
+      by true e = subst (AfterAnswer r) (sym (found r (since .seen) k n b (since .kept) e)) (λ seven. refl, tt)
       by false e =
-          subst (Reaches r) (sym (not-found r (since .seen) k n b (since .kept) e))
-          (g, record { seen = since .seen ++ (b ∷ []); kept = still-kept r (since .seen) k n b (since .kept) e })
+          subst (AfterAnswer r) (sym (not-found r (since .seen) k n b (since .kept) e))
+          (g, record { seen = since .seen ++ (b ∷ []); kept = still-kept r (since .seen) k n b (since .kept) })
 
-  reaches : (s : Standing) → KeptIn (r .form) s → Reaches r (answerTo (standingAt s r) b)
+  after-answer : (s : Standing) → KeptIn (r .form) s → AfterAnswer r (answerTo (standingAt s r) b)
   unfolding answerTo
-  reaches (Standing.InStep w) h =
+  after-answer (Standing.InStep w) h =
       let now : Reader = standingAt (Standing.InStep w) r in
       let law = in-step-lawful now b w in
       (λ seven. law .1 seven ∙ g seven, kept-after now b (answerInStep w b now .answer) (answerInStep w b now .reader) (law .2))
-  reaches (Standing.Lost k n) h = reaches-lost k n h
+  after-answer (Standing.Lost k n) h = after-lost k n h
 
 reached-on : (r : Reader) (b : ℕ) → Reached r → Reached (answerTo r b .reader)
 reached-on r b h =
-    let law : Reaches r (answerTo r b) = reaches r b (h .gr-shows-g1) (r .standing) (h .keeps) in
+    let law : AfterAnswer r (answerTo r b) = after-answer r b (h .gr-shows-g1) (r .standing) (h .keeps) in
     record {
       gr-shows-g1 = λ seven. law .0 (sym (form-on r b) ∙ seven);
       keeps = subst (λ (m : Form). KeptIn m (answerTo r b .reader .standing)) (sym (form-on r b)) (law .1);

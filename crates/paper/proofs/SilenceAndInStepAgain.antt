@@ -1,56 +1,62 @@
--- Demand 3, as may be relied on: silence after a refusal, and in step again after an opening. What the words mean stands in
--- specs/Texts (answerAfter, answersPast, Holds) and specs/Starting (opening). Each statement is one over both forms, and
--- follows from laws in files of their own.
+-- Demand 3, as may be relied on: silence after a refusal, and in step again after an opening, each said once over both forms. What
+-- the words mean stands in specs/Texts (answerAfter, answersOf, endWord, later, OpeningIn), specs/Starting (opening, started) and
+-- specs/Searching (skippedBytes: the number, or 65,535 if more). The laws behind stand in files of their own.
 use Prim.Native.Nat.{ℕ}
 use mathlib.Core.Path.{_≡_, sym, ap, _∙_, subst}
 use mathlib.Core.List.{List, [], _∷_, _++_}
 use lib.ListN.{length}
-use Rattle.paper.specs.Choice.{_gives_or_}
 use Rattle.paper.specs.Words.{Form, Seven, G1, Reader, Refusal, Answer}
 use Rattle.paper.specs.Starting.{started, opening}
-use Rattle.paper.specs.Searching.{endsWith, skippedBytes}
-use Rattle.paper.specs.Answering.{answerTo, endOfText}
-use Rattle.paper.specs.Texts.{readerAfter, answerAfter, answersFrom, answersOf, answersPast, endWord, Holds}
+use Rattle.paper.specs.Searching.{skippedBytes}
+use Rattle.paper.specs.Answering.{endOfText}
+use Rattle.paper.specs.Texts.{readerAfter, answersFrom, answersOf, endWord, answerAfter, later, OpeningIn, NoOpeningIn}
 use Rattle.paper.proofs.LawfulAnswers.{form-after}
-use Rattle.paper.proofs.LostSinceARefusal.{lost-since, answer-since}
-use Rattle.paper.proofs.OffsetsOfALaterText.{answers-past}
+use Rattle.paper.proofs.LostSinceARefusal.{Silent, silent-since}
+use Rattle.paper.proofs.OffsetsOfALaterText.{answers-of-a-later-text}
 use Rattle.paper.proofs.OpeningMakesTheStart.{opening-makes-the-start}
 use Rattle.paper.proofs.ReadersThatTextsLeadTo.{reached}
 use Rattle.paper.proofs.TextsThatGoOn.{reader-on}
 
--- Silence. After any text a byte b is refused, and the bytes from b on hold no opening yet. Then the next byte, whatever it is, is
--- skipped, unless it is the last byte of an opening: it answers instep with the number of bytes from b to it, both
--- counted, or 65,535 if more. So nothing else is handed out before an opening is complete.
-pub silence : (m : Form) (text : List ℕ) (b : ℕ) (n : Refusal) → answerAfter m text b ≡ Answer.Refused n →
-    (since : List ℕ) → (Holds m (b ∷ since) → ⊥) → (next : ℕ) →
-    let all = (b ∷ since) ++ (next ∷ []) in
-    answerAfter m (text ++ b ∷ since) next ≡
-    (endsWith all (opening m) gives Answer.InStep (skippedBytes (length all)) or Answer.Skipped)
-silence m text b n refused since without next =
+-- Silence. After any text a byte is refused, and no opening stands in the bytes since, the refused one included. Then the next byte is
+-- skipped; or an opening is complete with it, and it answers instep with the number of bytes from the refused one to it, both
+-- counted, 65,535 if more. So nothing else is handed out before an opening is complete.
+pub silence : (m : Form) (text : List ℕ) (refused : ℕ) (n : Refusal) → answerAfter m text refused ≡ Answer.Refused n →
+    (more : List ℕ) (next : ℕ) →
+    let since = refused ∷ more in
+    let all = since ++ (next ∷ []) in
+    let answer = answerAfter m (text ++ since) next in
+    NoOpeningIn m since →
+    (NoOpeningIn m all → answer ≡ Answer.Skipped) × (OpeningIn m all → answer ≡ Answer.InStep (skippedBytes (length all)))
+silence m text refused n e more next =
+    let since : List ℕ = refused ∷ more in
     let r : Reader = readerAfter (started m) text in
-    let same : r .form ≡ m = form-after text (started m) in
-    let lost = lost-since r b n since refused (subst (λ (f : Form). Holds f (b ∷ since) → ⊥) (sym same) without) in
-    let all : List ℕ = (b ∷ since) ++ (next ∷ []) in
-    ap (λ (x : Reader). answerTo x next .answer) (reader-on text (b ∷ since) (started m)) ∙
-    (answer-since r (b ∷ since) (readerAfter r (b ∷ since)) lost next ∙
-    ap (λ (f : Form). endsWith all (opening f) gives Answer.InStep (skippedBytes (length all)) or Answer.Skipped) same)
-
--- In step again. Any bytes at all, then the opening of the form, unbroken, then any text: the text's answers, with offsets counted from
--- its own first byte, and its end word are those of a reader just started.
-pub in-step-again : (m : Form) (before text : List ℕ) →
-    (answersPast m (before ++ opening m) text ≡ answersOf m text) ×
-    (endWord m ((before ++ opening m) ++ text) ≡ endWord m text)
-in-step-again m before text =
-    let start = opening-makes-the-start m before in (
-      answers-past m (before ++ opening m) text ∙ ap (λ (r : Reader). answersFrom 0 r text) start,
-      ap endOfText (reader-on (before ++ opening m) text (started m) ∙ ap (λ (r : Reader). readerAfter r text) start),
-    )
+    subst (λ (f : Form). Silent f since next (readerAfter (started m) (text ++ since))) (form-after text (started m))
+    (subst (λ (now : Reader). Silent (r .form) since next now) (sym (reader-on text since (started m)))
+    (silent-since r refused n more next e))
 
 -- The reader after an opening is the starting reader, equal as a value, whatever came before.
 pub as-just-started : (m : Form) (before : List ℕ) → readerAfter (started m) (before ++ opening m) ≡ started m
-as-just-started m before = opening-makes-the-start m before
+as-just-started m before =
+    let r : Reader = readerAfter (started m) before in
+    reader-on before (opening m) (started m) ∙
+    subst (λ (f : Form). readerAfter r (opening f) ≡ started f) (form-after before (started m))
+    (opening-makes-the-start r (reached m before))
 
--- An opening does not touch GR in 7-bit form, and need not: there GR shows G1 from the start on, after any text, since the shifts
--- into GR have no meaning.
+-- It is so in 7-bit form too, where an opening does not touch GR: there GR shows G1 from the start on, after any text, since the
+-- shifts into GR have no meaning.
 pub gr-stays-in-seven-bits : (text : List ℕ) → readerAfter (started Seven) text .gr ≡ G1
 gr-stays-in-seven-bits text = reached Seven text .gr-shows-g1 (form-after text (started Seven))
+
+-- In step again. Any bytes at all, then the opening of the form, unbroken, then any text: the text gets the answers that it gets alone,
+-- from a reader just started, as many bytes later as came before it; and the end word is its own.
+pub in-step-again : (m : Form) (before text : List ℕ) →
+    let first = before ++ opening m in
+    (answersOf m (first ++ text) ≡ answersOf m first ++ later (length first) (answersOf m text)) ×
+    (endWord m (first ++ text) ≡ endWord m text)
+in-step-again m before text =
+    let first : List ℕ = before ++ opening m in
+    let start = as-just-started m before in (
+      answers-of-a-later-text m first text ∙
+          ap (λ (r : Reader). answersOf m first ++ later (length first) (answersFrom 0 r text)) start,
+      ap endOfText (reader-on first text (started m) ∙ ap (λ (r : Reader). readerAfter r text) start),
+    )

@@ -1,8 +1,8 @@
--- What a text gives: folds over its bytes from a reader.
-use Prim.Native.Nat.{ℕ, suc, _-_}
+-- What a text gives: folds over its bytes from a reader; and openings in it.
+use Prim.Native.Nat.{ℕ, suc, _+_}
 use mathlib.Core.Path.{_≡_}
 use mathlib.Core.List.{List, [], _∷_, _++_}
-use lib.ListN.{drop, length}
+use lib.ListN.{length}
 use Rattle.paper.specs.Choice.{_gives_or_}
 use Rattle.paper.specs.Words.{Form, Reader, Answer, EndWord}
 use Rattle.paper.specs.Starting.{started, opening}
@@ -34,19 +34,19 @@ endWord m l = endOfText (readerAfter (started m) l)
 abbrev pub answerAfter : Form → List ℕ → ℕ → Answer
 answerAfter m text b = answerTo (readerAfter (started m) text) b .answer
 
--- the answers to a text that comes after other bytes: those to all of it but the first, counted from the text's own first byte
-abbrev pub countedFrom : ℕ → List Placed → List Placed
-countedFrom n [] = []
-countedFrom n (a ∷ l) = record { offset = a .offset - n; answer = a .answer } ∷ countedFrom n l
+-- the same answers, so many bytes later
+abbrev pub later : ℕ → List Placed → List Placed
+later n [] = []
+later n (a ∷ l) = record { offset = n + a .offset; answer = a .answer } ∷ later n l
 
-abbrev pub answersPast : Form → List ℕ → List ℕ → List Placed
-answersPast m first text = countedFrom (length first) (drop (length first) (answersOf m (first ++ text)))
-
--- bytes that hold a complete opening: it stands in them unbroken
-pub record Holds (m : Form) (bs : List ℕ) : Type 0 where
+-- a complete opening stands in these bytes, unbroken
+pub record OpeningIn (m : Form) (bs : List ℕ) : Type 0 where
   pub before : List ℕ
   pub after : List ℕ
   pub is : bs ≡ before ++ opening m ++ after
+
+abbrev pub NoOpeningIn : Form → List ℕ → Type 0
+NoOpeningIn m bs = OpeningIn m bs → ⊥
 
 -- The search, as the paper says it. Seen are all bytes since the refused one, it included: a byte is skipped until they end
 -- with the opening; that byte answers instep with their number, and what follows is read as from the start.
