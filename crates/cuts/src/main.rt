@@ -23,7 +23,7 @@ const ROOM: usize = 255;
 // Any answer's line fits.
 const LINE: usize = 64;
 
-// More triples than there are.
+// At most so many triples are read, which bounds the loop.
 const TRIPLES: usize = 1000000000;
 
 // How an answer is shown: two have no line in a listing.
