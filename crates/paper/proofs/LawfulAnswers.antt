@@ -54,7 +54,8 @@ module _ (r : Reader) (b : ℕ) where
   unfolding c0Byte
   lawful-c0 =
       gives-has Lawful (eqb b esc) (refl, λ seven. refl, tt)
-      (gives-has Lawful (eqb b so) (refl, λ seven. refl, tt) (gives-has Lawful (eqb b si) (refl, λ seven. refl, tt) (refl, λ seven. refl, tt)))
+      (gives-has Lawful (eqb b so) (refl, λ seven. refl, tt)
+      (gives-has Lawful (eqb b si) (refl, λ seven. refl, tt) (refl, λ seven. refl, tt)))
 
   lawful-character : (e : Element) (x : Set) (a : GraphicArea) (p : PositionBytes) → Lawful (character e x a p r)
   unfolding character
