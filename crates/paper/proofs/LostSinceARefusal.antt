@@ -1,8 +1,10 @@
 -- A reader that refused a byte is lost as long as no opening stands in the bytes from it on: with none of them is an opening complete.
--- So what it answers to the next byte depends on whether an opening stands in them and that one, and then they end with it.
+-- So what it answers to the next byte depends on whether an opening stands in them and that one; if so they end with it, since none stood
+-- in them without it.
 use Prim.Native.Nat.{ℕ, suc}
-use mathlib.Core.Path.{_≡_, sym, ap, _∙_}
-use mathlib.Core.Bool.{true, false}
+use mathlib.Core.Path.{_≡_, refl, sym, ap, _∙_}
+use mathlib.Core.Logic.{_⊎_, inl, inr}
+use mathlib.Core.Bool.{Bool, true, false}
 use mathlib.Core.List.{List, [], _∷_, _++_, append-assoc, append-nil}
 use native.Mathlib.Omega.{arith}
 use lib.ListN.{take, drop, length, getD, take-append-drop}
@@ -14,8 +16,9 @@ use Rattle.paper.specs.Answering.{answerTo}
 use Rattle.paper.specs.Texts.{readerAfter, OpeningIn, NoOpeningIn}
 use Rattle.paper.proofs.AByteMoreWhileLost.{found, not-found, kept-first}
 use Rattle.paper.proofs.AnOpeningWhileLost.{NoneComplete, LostSince, stays-lost}
+use Rattle.paper.proofs.Choices.{impossible}
 use Rattle.paper.proofs.LawfulAnswers.{refused-lost}
-use Rattle.paper.proofs.ListsThatEnd.{Tail, tail-ends, no-tail, last-byte}
+use Rattle.paper.proofs.ListsThatEnd.{Tail, ends-tail, tail-ends, no-tail, last-byte}
 
 -- ---- an opening in bytes, and bytes that end with one
 
@@ -45,6 +48,16 @@ ends-now m seen c none o = by (o .after) (o .is)
         (e ∙ (ap (λ (x : List ℕ). o .before ++ opening m ++ x) parted ∙
         sym (append-assoc (o .before ++ opening m) front (last ∷ [])))) in
         absurd (none (record { before = o .before; after = front; is = parts .0 }))
+
+-- so one byte more completes an opening, or none stands there still
+pub opening-or-none : (m : Form) (seen : List ℕ) (c : ℕ) → NoOpeningIn m seen →
+    NoOpeningIn m (seen ++ (c ∷ [])) ⊎ OpeningIn m (seen ++ (c ∷ []))
+opening-or-none m seen c none = by (endsWith (seen ++ (c ∷ [])) (opening m)) refl
+  where
+    by : (t : Bool) → endsWith (seen ++ (c ∷ [])) (opening m) ≡ t → NoOpeningIn m (seen ++ (c ∷ [])) ⊎ OpeningIn m (seen ++ (c ∷ []))
+    by true e = inr (rw (← (append-nil (seen ++ (c ∷ []))))
+        (stands-in m (seen ++ (c ∷ [])) [] (ends-tail (seen ++ (c ∷ [])) (opening m) e)))
+    by false e = inl (λ o. let there : endsWith (seen ++ (c ∷ [])) (opening m) ≡ true = ends-now m seen c none o in impossible (cc))
 
 -- ---- the reader
 

@@ -1,5 +1,5 @@
 -- A text that comes after other bytes gets the answers that it gets from where these bytes led, each as many bytes later as these bytes
--- are.
+-- are: byte by byte, since each offset is one more. So the answer to one byte after a text is the next of the text's answers.
 use Prim.Native.Nat.{ℕ, suc, _+_}
 use mathlib.Core.Path.{_≡_, refl, sym, ap, _∙_}
 use mathlib.Core.List.{List, [], _∷_, _++_}
@@ -8,7 +8,7 @@ use lib.ListN.{length}
 use Rattle.paper.specs.Words.{Form, Reader}
 use Rattle.paper.specs.Starting.{started}
 use Rattle.paper.specs.Answering.{answerTo}
-use Rattle.paper.specs.Texts.{Placed, readerAfter, answersFrom, answersOf, later}
+use Rattle.paper.specs.Texts.{Placed, readerAfter, answersFrom, answersOf, answerAfter, later}
 use Rattle.paper.proofs.TextsThatGoOn.{answers-on}
 
 answered-later : (l : List ℕ) (n at : ℕ) (r : Reader) → answersFrom (n + at) r l ≡ later n (answersFrom at r l)
@@ -26,3 +26,9 @@ answers-of-a-later-text m first text =
     ap (λ (l : List Placed). answersOf m first ++ l)
     (ap (λ (at : ℕ). answersFrom at r text) (zero-add (length first) ∙ sym (add-zero (length first))) ∙
     answered-later text (length first) 0 r)
+
+pub answers-to-one-more : (m : Form) (text : List ℕ) (b : ℕ) →
+    answersOf m (text ++ (b ∷ [])) ≡ answersOf m text ++ (record { offset = length text; answer = answerAfter m text b } ∷ [])
+answers-to-one-more m text b =
+    answers-on text (b ∷ []) 0 (started m) ∙
+    ap (λ (at : ℕ). answersOf m text ++ (record { offset = at; answer = answerAfter m text b } ∷ [])) (zero-add (length text))

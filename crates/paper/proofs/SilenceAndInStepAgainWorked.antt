@@ -1,13 +1,13 @@
--- Demand 3, worked. Silence: P10 by the theorem, at the opening's first and last byte. In step again: five places where the bytes before an
--- opening can stop, in one table that is computed. Each row has the end word of these bytes, and the offset and count of instep
--- at the opening's last byte; the text 4/1 SO 4/1 then gets the answers and the end word of a reader just started.
+-- Demand 3, worked. Silence: P10 by the theorem, at the byte after the refused one and at the opening's last. In step again: where the
+-- bytes before an opening can stop, in one table that is computed. Each row has the end word of these bytes, and the offset and the
+-- answer of the opening's last byte; the text 4/1 SO 4/1 then gets the answers and the end word that it gets alone.
 use Prim.Native.Nat.{ℕ, _+_}
 use mathlib.Core.Path.{_≡_, refl}
 use mathlib.Core.List.{List, [], _∷_, _++_, map}
 use native.Mathlib.Omega.{arith}
 use lib.ListN.{take, drop}
 use Rattle.paper.specs.Choice.{between}
-use Rattle.paper.specs.Words.{Form, Seven, Eight, G0, G1, LS1, PositionBytes, Refusal, Answer, EndWord}
+use Rattle.paper.specs.Words.{Form, Seven, Eight, G0, G1, LS1, LS1R, PositionBytes, Refusal, Answer, EndWord}
 use Rattle.paper.specs.CodeTable.{columnArea, formHasColumn, positionOf, so, esc}
 use Rattle.paper.specs.Sets.{setByte}
 use Rattle.paper.specs.Starting.{latin, greek, opening}
@@ -48,27 +48,34 @@ silence-worked =
 
 -- ---- in step again
 
-pub record Stop : Type 0 where
-  pub form : Form
-  pub before : List ℕ
-  pub word : EndWord
-  pub offset : ℕ
-  pub count : ℕ
+record Stop : Type 0 where
+  form : Form
+  before : List ℕ
+  word : EndWord
+  offset : ℕ
+  last : Answer
 
-abbrev pub stops : List Stop
+abbrev stops : List Stop
 stops =
     -- inside an escape sequence: 1/11 2/8, while GL shows G1
-    record { form = Seven; before = so ∷ 0x41 ∷ 0x42 ∷ esc ∷ 0x28 ∷ []; word = EndWord.Inside; offset = 24; count = 20 } ∷
+    record { form = Seven; before = so ∷ 0x41 ∷ 0x42 ∷ esc ∷ 0x28 ∷ []; word = EndWord.Inside; offset = 24; last = Answer.InStep 20 } ∷
     -- after a single shift, with another set in G1
-    record { form = Eight; before = esc ∷ 0x29 ∷ 0x42 ∷ 0x8E ∷ []; word = EndWord.Inside; offset = 24; count = 21 } ∷
+    record { form = Eight; before = esc ∷ 0x29 ∷ 0x42 ∷ 0x8E ∷ []; word = EndWord.Inside; offset = 24; last = Answer.InStep 21 } ∷
     -- inside a character: one byte of two, of a set in G0
-    record { form = Seven; before = esc ∷ 0x24 ∷ 0x42 ∷ 0x30 ∷ []; word = EndWord.Inside; offset = 23; count = 20 } ∷
+    record { form = Seven; before = esc ∷ 0x24 ∷ 0x42 ∷ 0x30 ∷ []; word = EndWord.Inside; offset = 23; last = Answer.InStep 20 } ∷
     -- inside part of an opening: its first eight bytes, while GL shows G2
-    record { form = Eight; before = (esc ∷ 0x6E ∷ []) ++ take 8 (opening Eight); word = EndWord.Inside; offset = 30; count = 21 } ∷
+    record {
+      form = Eight;
+      before = (esc ∷ 0x6E ∷ []) ++ take 8 (opening Eight);
+      word = EndWord.Inside;
+      offset = 30;
+      last = Answer.InStep 21;
+    } ∷
     -- while lost, and inside part of an opening: P11
-    record { form = Eight; before = esc ∷ esc ∷ 0x21 ∷ 0x40 ∷ esc ∷ []; word = EndWord.Lost; offset = 25; count = 25 } ∷ []
+    record { form = Eight; before = esc ∷ esc ∷ 0x21 ∷ 0x40 ∷ esc ∷ []; word = EndWord.Lost; offset = 25; last = Answer.InStep 25 } ∷
+    -- nowhere inside, after two sequences of an opening: the unbroken one is read as ordinary sequences
+    record { form = Eight; before = take 6 (opening Eight); word = EndWord.Whole; offset = 26; last = Answer.Shift LS1R } ∷ []
 
--- the text, and its answers where it stands alone
 abbrev textAfter : List ℕ
 textAfter = 0x41 ∷ so ∷ 0x41 ∷ []
 
@@ -78,16 +85,18 @@ answersAlone =
     record { offset = 1; answer = Answer.Shift LS1 } ∷
     record { offset = 2; answer = Answer.Char G1 greek (PositionBytes.One 0x41) } ∷ []
 
--- the end word, and the answers from the opening's last byte on
-abbrev given : Stop → List EndWord × List Placed
+-- the end words of the bytes before, of the text alone and of all; the text's answers alone, and those from the opening's last byte on
+abbrev given : Stop → List EndWord × List Placed × List Placed
 given s =
-    let all = (s .before ++ opening (s .form)) ++ textAfter in
-    (endWord (s .form) (s .before) ∷ endWord (s .form) all ∷ [], drop (s .offset) (answersOf (s .form) all))
+    let m = s .form in
+    let all = (s .before ++ opening m) ++ textAfter in
+    (endWord m (s .before) ∷ endWord m textAfter ∷ endWord m all ∷ [], answersOf m textAfter, drop (s .offset) (answersOf m all))
 
-abbrev expected : Stop → List EndWord × List Placed
+abbrev expected : Stop → List EndWord × List Placed × List Placed
 expected s = (
-  s .word ∷ EndWord.Whole ∷ [],
-  record { offset = s .offset; answer = Answer.InStep (s .count) } ∷ later (s .offset + 1) answersAlone,
+  s .word ∷ EndWord.Whole ∷ EndWord.Whole ∷ [],
+  answersAlone,
+  record { offset = s .offset; answer = s .last } ∷ later (s .offset + 1) answersAlone,
 )
 
 pub stops-hold : map given stops ≡ map expected stops
