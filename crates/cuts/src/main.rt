@@ -1,5 +1,5 @@
 // Cuts a first text at every byte, reads what stands before the cut, what stands between and a second text, and holds the answers
-// to the second text against those of a reader just started. Standard input has, for each triple, a byte for its form, 7 or 8, and
+// to the second text against those of a reader just started. Standard input has, for each triple, a byte for its form, 7 or else 8, and
 // three times a byte for a length and so many bytes: the first text, what stands between, the second text. For each, standard
 // output has a line with the form and the three lengths; for every cut, a line with the cut, the end word before what stands
 // between, and whether the second text is answered the same, or where it differs; and, if something stands between, the answer to
