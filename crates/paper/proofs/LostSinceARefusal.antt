@@ -61,7 +61,7 @@ opening-or-none m seen c none = by (endsWith (seen ++ (c ∷ [])) (opening m)) r
 
 -- ---- the reader
 
-lost-since : (r : Reader) (b : ℕ) (n : Refusal) (more : List ℕ) → answerTo r b .answer ≡ Answer.Refused n →
+pub lost-since : (r : Reader) (b : ℕ) (n : Refusal) (more : List ℕ) → answerTo r b .answer ≡ Answer.Refused n →
     NoOpeningIn (r .form) (b ∷ more) → LostSince r (b ∷ more) (readerAfter r (b ∷ more))
 lost-since r b n more e none =
     rw (refused-lost r b n e .1)

@@ -6,13 +6,13 @@ use mathlib.Core.Path.{_≡_, sym, ap, _∙_, subst}
 use mathlib.Core.Logic.{_⊎_, ⊎-map}
 use mathlib.Core.List.{List, [], _∷_, _++_}
 use lib.ListN.{length}
-use Rattle.paper.specs.Words.{Form, Seven, G1, Reader, Refusal, Answer}
+use Rattle.paper.specs.Words.{Form, Seven, G1, Reader, Refusal, Answer, EndWord}
 use Rattle.paper.specs.Starting.{started, opening}
 use Rattle.paper.specs.Searching.{skippedBytes}
 use Rattle.paper.specs.Answering.{endOfText}
 use Rattle.paper.specs.Texts.{readerAfter, answersFrom, answersOf, endWord, answerAfter, later, OpeningIn, NoOpeningIn}
 use Rattle.paper.proofs.LawfulAnswers.{form-after}
-use Rattle.paper.proofs.LostSinceARefusal.{opening-or-none, Silent, silent-since}
+use Rattle.paper.proofs.LostSinceARefusal.{opening-or-none, lost-since, Silent, silent-since}
 use Rattle.paper.proofs.OffsetsOfALaterText.{answers-of-a-later-text}
 use Rattle.paper.proofs.OpeningMakesTheStart.{opening-makes-the-start}
 use Rattle.paper.proofs.ReadersThatTextsLeadTo.{reached}
@@ -46,6 +46,16 @@ pub nothing-handed-out : (form : Form) (text : List ℕ) (refused : ℕ) (number
 nothing-handed-out form text refused number e more next none =
     let either = silence form text refused number e more next none in
     ⊎-map (either .0) (either .1) (opening-or-none form (refused ∷ more) next none)
+
+-- And a text that ends before that ends lost.
+pub lost-at-the-end : (form : Form) (text : List ℕ) (refused : ℕ) (number : Refusal) →
+    answerAfter form text refused ≡ Answer.Refused number → (more : List ℕ) → NoOpeningIn form (refused ∷ more) →
+    endWord form (text ++ (refused ∷ more)) ≡ EndWord.Lost
+lost-at-the-end form text refused number e more none =
+    let r : Reader = readerAfter (started form) text in
+    let none-of-it : NoOpeningIn (r .form) (refused ∷ more) =
+    subst (λ (f : Form). NoOpeningIn f (refused ∷ more)) (sym (form-after text (started form))) none in
+    ap endOfText (reader-on text (refused ∷ more) (started form) ∙ lost-since r refused number more e none-of-it .is)
 
 -- The reader after an opening is the starting reader, equal as a value, whatever came before.
 pub as-just-started : (form : Form) (before : List ℕ) → readerAfter (started form) (before ++ opening form) ≡ started form
