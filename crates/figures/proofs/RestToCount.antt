@@ -16,7 +16,7 @@ use Rattle.paper.specs.Results.{otherWord, refusedWord, instepWord}
 use Rattle.paper.specs.Starting.{started}
 use Rattle.paper.specs.Answering.{answerTo, endOfText}
 use Rattle.paper.specs.Texts.{Placed, readerAfter, answersFrom}
-use Rattle.paper.specs.Surveying.{howMany, refusalOr, firstRefusal, figuresOf}
+use Rattle.paper.specs.Surveying.{howMany, refusalOr, firstRefusal, firstOf, figuresOf}
 use Rattle.paper.specs.declared.Form.{Form}
 use Rattle.paper.specs.declared.Reader.{Reader}
 use Rattle.paper.specs.declared.EndWord.{EndWord}
@@ -25,7 +25,6 @@ use Rattle.paper.specs.declared.Answer.{Answer}
 use Rattle.paper.specs.declared.Answered.{Answered}
 use Rattle.paper.specs.declared.FirstRefusal.{FirstRefusal}
 use Rattle.paper.specs.declared.FirstRefusal.the-variants.{Never, First}
-use Rattle.figures.specs.FirstOfTwo.{firstOf}
 
 -- there are eleven words
 pub word-below : (a : Answer) → wordOf a < 11

@@ -11,9 +11,8 @@ ghost use mathlib.Core.Path.{_≡_};
 ghost use lib.ListN.{length};
 ghost use Rattle.paper.specs.Refusals.{longestText};
 ghost use Rattle.paper.specs.Results.{wordOf};
-ghost use Rattle.paper.specs.Surveying.{refusalOr, figuresOf, surveyOf};
+ghost use Rattle.paper.specs.Surveying.{refusalOr, firstOf, figuresOf, surveyOf};
 ghost use Rattle.paper.specs.declared.FirstRefusal.the-variants.{Never};
-ghost use Rattle.figures.specs.FirstOfTwo.{firstOf};
 
 // The places of the answer words in the paper's list, and how many there are.
 const NOTHING_YET_WORD: usize = 0;

@@ -1,10 +1,12 @@
--- The paper's examples P1 to P11, in one table that is computed: the bytes; the answers by offset, number of the word and values;
--- the refusal and Unicode number of each character; the word at the end.
+-- The paper's examples P1 to P12, in one table that is computed: the bytes; the answers by offset, number of the word and values;
+-- the refusal and Unicode number of each character; the word at the end; and what converting to 7-bit form and back returns, with
+-- the buffer afterwards.
 use Prim.Native.Nat.{ℕ, zero, suc}
 use mathlib.Core.Path.{_≡_, refl}
 use mathlib.Core.List.{List, [], _∷_, _++_, map}
+use lib.ListN.{length}
 use Rattle.paper.specs.Choice.{between}
-use Rattle.paper.specs.Words.{Eight, Count, Set, PositionBytes, Answer, EndWord, Numbered}
+use Rattle.paper.specs.Words.{Form, Seven, Eight, Count, Set, PositionBytes, Answer, EndWord, Numbered}
 use Rattle.paper.specs.CodeTable.{byteAt, columnArea, formHasColumn, positionOf}
 use Rattle.paper.specs.Sets.{setByte}
 use Rattle.paper.specs.Starting.{opening}
@@ -14,8 +16,9 @@ use Rattle.paper.specs.Searching.{matchedWith, oneMore}
 use Rattle.paper.specs.Characters.{c0Byte, byteIn, character}
 use Rattle.paper.specs.Answering.{means, answerInStep, answerLost, answerTo}
 use Rattle.paper.specs.Texts.{Placed, answersOf, endWord}
-use Rattle.paper.specs.Results.{wordOf, valuesOf, Returned, returnedNumber, nothingYetWord, charWord}
+use Rattle.paper.specs.Results.{wordOf, valuesOf, Returned, returnedNumber, returnedConversion, nothingYetWord, charWord}
 use Rattle.paper.specs.Results.{spaceWord, designateWord, shiftWord, refusedWord, skippedWord, instepWord}
+use Rattle.paper.specs.Conversions.{output, conversion, wroteBy, bufferAfter}
 use Rattle.paper.specs.LatinGreek.{greekNumber, numberIn, unicodeOf}
 
 -- an answer by offset, number of its word and values
@@ -49,6 +52,27 @@ abbrev pub numbersOf : List Placed → List (List ℕ)
 numbersOf [] = []
 numbersOf (a ∷ l) = withNumber (a .answer) (numbersOf l)
 
+-- a lent buffer of eight bytes, and what is left of it unchanged
+abbrev pub unchanged : ℕ → List ℕ
+unchanged zero = []
+unchanged (suc n) = 0xFF ∷ unchanged n
+
+abbrev pub lent : List ℕ
+lent = unchanged 8
+
+-- a conversion into it: refusal, place and length, and the buffer afterwards
+abbrev pub convertedIntoIt : Form → Form → List ℕ → List (List ℕ)
+convertedIntoIt from to text =
+    shownNumber (returnedConversion (conversion from to text (length lent))) ∷ bufferAfter from to text lent ∷ []
+
+-- what it wrote
+abbrev pub wroteIntoIt : Form → Form → List ℕ → List ℕ
+wroteIntoIt from to text = wroteBy (conversion from to text (length lent)) (output from to text)
+
+-- back from nothing: a length of 0
+abbrev pub nothing : List (List ℕ)
+nothing = (0 ∷ 0 ∷ 0 ∷ []) ∷ lent ∷ []
+
 -- A character's values are its element, G0 to G3 being 2 to 5, the size and the bytes to a character, F, the position bytes; a
 -- designation's are the first four.
 pub record Example : Type 0 where
@@ -56,6 +80,8 @@ pub record Example : Type 0 where
   pub answers : List (List ℕ)
   pub numbers : List (List ℕ)
   pub end : EndWord
+  pub seven : List (List ℕ)
+  pub back : List (List ℕ)
 
 -- so many bytes skipped, from an offset on, then the answers to what follows
 abbrev pub skipping : ℕ → ℕ → List (List ℕ) → List (List ℕ)
@@ -70,6 +96,8 @@ paperExamples =
       answers = (0 ∷ charWord ∷ 3 ∷ 96 ∷ 1 ∷ 0x46 ∷ 0x41 ∷ []) ∷ [];
       numbers = (0 ∷ 0x391 ∷ []) ∷ [];
       end = EndWord.Whole;
+      seven = (0 ∷ 0 ∷ 2 ∷ []) ∷ (0x0E ∷ 0x41 ∷ unchanged 6) ∷ [];
+      back = (0 ∷ 0 ∷ 1 ∷ []) ∷ (0xC1 ∷ unchanged 7) ∷ [];
     } ∷
     -- P2: SPACE, G1 2/0
     record {
@@ -77,6 +105,8 @@ paperExamples =
       answers = (0 ∷ spaceWord ∷ []) ∷ (1 ∷ charWord ∷ 3 ∷ 96 ∷ 1 ∷ 0x46 ∷ 0x20 ∷ []) ∷ [];
       numbers = (0 ∷ 0xA0 ∷ []) ∷ [];
       end = EndWord.Whole;
+      seven = (0 ∷ 0 ∷ 3 ∷ []) ∷ (0x20 ∷ 0x0E ∷ 0x20 ∷ unchanged 5) ∷ [];
+      back = (0 ∷ 0 ∷ 2 ∷ []) ∷ (0x20 ∷ 0xA0 ∷ unchanged 6) ∷ [];
     } ∷
     -- P3: G1 2/0, no SPACE
     record {
@@ -84,6 +114,8 @@ paperExamples =
       answers = (0 ∷ shiftWord ∷ 1 ∷ []) ∷ (1 ∷ charWord ∷ 3 ∷ 96 ∷ 1 ∷ 0x46 ∷ 0x20 ∷ []) ∷ [];
       numbers = (0 ∷ 0xA0 ∷ []) ∷ [];
       end = EndWord.Whole;
+      seven = (0 ∷ 0 ∷ 2 ∷ []) ∷ (0x0E ∷ 0x20 ∷ unchanged 6) ∷ [];
+      back = (0 ∷ 0 ∷ 1 ∷ []) ∷ (0xA0 ∷ unchanged 7) ∷ [];
     } ∷
     -- P4: G2 2/0
     record {
@@ -91,6 +123,8 @@ paperExamples =
       answers = (0 ∷ shiftWord ∷ 7 ∷ []) ∷ (1 ∷ charWord ∷ 4 ∷ 96 ∷ 1 ∷ 0x41 ∷ 0x20 ∷ []) ∷ [];
       numbers = (10 ∷ 0 ∷ []) ∷ [];
       end = EndWord.Whole;
+      seven = (0 ∷ 0 ∷ 3 ∷ []) ∷ (0x1B ∷ 0x4E ∷ 0x20 ∷ unchanged 5) ∷ [];
+      back = (0 ∷ 0 ∷ 2 ∷ []) ∷ (0x8E ∷ 0x20 ∷ unchanged 6) ∷ [];
     } ∷
     -- P5: 5 at 3
     record {
@@ -100,6 +134,8 @@ paperExamples =
           (3 ∷ refusedWord ∷ 5 ∷ []) ∷ [];
       numbers = [];
       end = EndWord.Lost;
+      seven = (5 ∷ 3 ∷ 0 ∷ []) ∷ lent ∷ [];
+      back = nothing;
     } ∷
     -- P6: 6 at 1
     record {
@@ -107,6 +143,8 @@ paperExamples =
       answers = (0 ∷ shiftWord ∷ 7 ∷ []) ∷ (1 ∷ refusedWord ∷ 6 ∷ []) ∷ [];
       numbers = [];
       end = EndWord.Lost;
+      seven = (6 ∷ 1 ∷ 0 ∷ []) ∷ lent ∷ [];
+      back = nothing;
     } ∷
     -- P7: one G0 character; with 2/0 last, 5 at 4
     record {
@@ -116,6 +154,8 @@ paperExamples =
           (3 ∷ nothingYetWord ∷ []) ∷ (4 ∷ charWord ∷ 2 ∷ 94 ∷ 2 ∷ 0x42 ∷ 0x30 ∷ 0x21 ∷ []) ∷ [];
       numbers = (10 ∷ 0 ∷ []) ∷ [];
       end = EndWord.Whole;
+      seven = (0 ∷ 0 ∷ 5 ∷ []) ∷ (0x1B ∷ 0x24 ∷ 0x42 ∷ 0x30 ∷ 0x21 ∷ unchanged 3) ∷ [];
+      back = (0 ∷ 0 ∷ 5 ∷ []) ∷ (0x1B ∷ 0x24 ∷ 0x42 ∷ 0x30 ∷ 0x21 ∷ unchanged 3) ∷ [];
     } ∷
     record {
       bytes = 0x1B ∷ 0x24 ∷ 0x42 ∷ 0x30 ∷ 0x20 ∷ [];
@@ -124,6 +164,8 @@ paperExamples =
           (3 ∷ nothingYetWord ∷ []) ∷ (4 ∷ refusedWord ∷ 5 ∷ []) ∷ [];
       numbers = [];
       end = EndWord.Lost;
+      seven = (5 ∷ 4 ∷ 0 ∷ []) ∷ lent ∷ [];
+      back = nothing;
     } ∷
     -- P8: 4 at 2
     record {
@@ -131,6 +173,8 @@ paperExamples =
       answers = (0 ∷ nothingYetWord ∷ []) ∷ (1 ∷ nothingYetWord ∷ []) ∷ (2 ∷ refusedWord ∷ 4 ∷ []) ∷ [];
       numbers = [];
       end = EndWord.Lost;
+      seven = (4 ∷ 2 ∷ 0 ∷ []) ∷ lent ∷ [];
+      back = nothing;
     } ∷
     -- P9: 3 at 3
     record {
@@ -139,6 +183,8 @@ paperExamples =
           (0 ∷ nothingYetWord ∷ []) ∷ (1 ∷ nothingYetWord ∷ []) ∷ (2 ∷ nothingYetWord ∷ []) ∷ (3 ∷ refusedWord ∷ 3 ∷ []) ∷ [];
       numbers = [];
       end = EndWord.Lost;
+      seven = (3 ∷ 3 ∷ 0 ∷ []) ∷ lent ∷ [];
+      back = nothing;
     } ∷
     -- P10: 2 at 2, instep 21 at 22, U+0391
     record {
@@ -148,6 +194,8 @@ paperExamples =
           skipping 19 3 ((22 ∷ instepWord ∷ 21 ∷ []) ∷ (23 ∷ charWord ∷ 3 ∷ 96 ∷ 1 ∷ 0x46 ∷ 0x41 ∷ []) ∷ []);
       numbers = (0 ∷ 0x391 ∷ []) ∷ [];
       end = EndWord.Whole;
+      seven = (2 ∷ 2 ∷ 0 ∷ []) ∷ lent ∷ [];
+      back = nothing;
     } ∷
     -- P11: 2 at 1, instep 25 at 25
     record {
@@ -156,6 +204,19 @@ paperExamples =
           (0 ∷ nothingYetWord ∷ []) ∷ (1 ∷ refusedWord ∷ 2 ∷ []) ∷ skipping 23 2 ((25 ∷ instepWord ∷ 25 ∷ []) ∷ []);
       numbers = [];
       end = EndWord.Whole;
+      seven = (2 ∷ 1 ∷ 0 ∷ []) ∷ lent ∷ [];
+      back = nothing;
+    } ∷
+    -- P12: to 7-bit 41 0E 41 0F 20; back, the same three
+    record {
+      bytes = 0x41 ∷ 0xC1 ∷ 0x20 ∷ [];
+      answers =
+          (0 ∷ charWord ∷ 2 ∷ 94 ∷ 1 ∷ 0x42 ∷ 0x41 ∷ []) ∷ (1 ∷ charWord ∷ 3 ∷ 96 ∷ 1 ∷ 0x46 ∷ 0x41 ∷ []) ∷
+          (2 ∷ spaceWord ∷ []) ∷ [];
+      numbers = (0 ∷ 0x41 ∷ []) ∷ (0 ∷ 0x391 ∷ []) ∷ [];
+      end = EndWord.Whole;
+      seven = (0 ∷ 0 ∷ 5 ∷ []) ∷ (0x41 ∷ 0x0E ∷ 0x41 ∷ 0x0F ∷ 0x20 ∷ unchanged 3) ∷ [];
+      back = (0 ∷ 0 ∷ 3 ∷ []) ∷ (0x41 ∷ 0xC1 ∷ 0x20 ∷ unchanged 5) ∷ [];
     } ∷
     []
 
@@ -166,10 +227,12 @@ told x = record {
   answers = map shown (answersOf Eight (x .bytes));
   numbers = numbersOf (answersOf Eight (x .bytes));
   end = endWord Eight (x .bytes);
+  seven = convertedIntoIt Eight Seven (x .bytes);
+  back = convertedIntoIt Seven Eight (wroteIntoIt Eight Seven (x .bytes));
 }
 
 pub examples-hold : map told paperExamples ≡ paperExamples
 unfolding between byteAt columnArea formHasColumn positionOf setByte sequenceByte c1Function shiftOrOther meaningOfNone
     designation shortDesignation byIntermediate meaningOfOne severalBytes meaningOfTwo matchedWith oneMore
-    c0Byte byteIn character means answerInStep answerLost answerTo greekNumber numberIn
+    c0Byte byteIn character means answerInStep answerLost answerTo greekNumber numberIn conversion
 examples-hold = refl

@@ -4,7 +4,8 @@ use lib.Dec.{leb, eqb}
 use Rattle.paper.specs.Choice.{between}
 use Rattle.paper.specs.Words.{Form, ControlElement, Element, G0, G1, G2, G3, Of94, Of96, Count, Intermediates, Shift}
 use Rattle.paper.specs.Words.{LS2, LS3, LS1R, LS2R, LS3R, SS2, SS3, Meaning, NoMeaning, Function, Shifts}
-use Rattle.paper.specs.Sequences.{firstFinal, lastFinal, isFinal, several, c1Function, rightShift, shiftOrOther}
+use Rattle.paper.specs.Sequences.{firstFinal, lastFinal, isFinal, functionOfSS2, functionOfSS3, lastFunction, c1Function}
+use Rattle.paper.specs.Sequences.{finalOfFunction, intermediateOf, several, isShort, intermediateOfControls, rightShift, shiftOrOther}
 use Rattle.paper.specs.Sequences.{meaningOfNone, designation, shortDesignation, byIntermediate, meaningOfOne}
 use Rattle.paper.specs.Sequences.{severalBytes, meaningOfTwo, meaningOf}
 use Rattle.paper.proofs.Choices.{gives-has}
@@ -29,8 +30,8 @@ module _ (m : Form) (P : Meaning → Type 0) (rows : Rows m P) where
   pub every-c1-function : (n : ℕ) → P (c1Function n)
   unfolding c1Function
   every-c1-function n =
-      gives-has P (eqb n 14) (rows .ss2)
-      (gives-has P (eqb n 15) (rows .ss3) (gives-has P (leb n 31) (rows .function n) (rows .no-meaning)))
+      gives-has P (eqb n functionOfSS2) (rows .ss2)
+      (gives-has P (eqb n functionOfSS3) (rows .ss3) (gives-has P (leb n lastFunction) (rows .function n) (rows .no-meaning)))
 
   of-shift : (f : ℕ) → P (shiftOrOther m f)
   unfolding shiftOrOther
@@ -44,22 +45,22 @@ module _ (m : Form) (P : Meaning → Type 0) (rows : Rows m P) where
   unfolding meaningOfNone
   of-none f =
       gives-has P (between firstFinal 0x3F f) (rows .other)
-      (gives-has P (between 0x40 0x5F f) (every-c1-function (f - 0x40))
+      (gives-has P (between finalOfFunction 0x5F f) (every-c1-function (f - finalOfFunction))
       (gives-has P (between 0x60 lastFinal f) (of-shift f) (rows .no-meaning)))
 
   of-designation : (i : ℕ) (n : Count) → P (designation i n)
   unfolding designation
   of-designation i n =
-      gives-has P (eqb i 0x28) (rows .of94 G0 n)
-      (gives-has P (eqb i 0x29) (rows .of94 G1 n)
-      (gives-has P (eqb i 0x2A) (rows .of94 G2 n)
-      (gives-has P (eqb i 0x2B) (rows .of94 G3 n)
-      (gives-has P (eqb i 0x2D) (rows .of96-in-g1 n)
-      (gives-has P (eqb i 0x2E) (rows .of96-in-g2 n) (gives-has P (eqb i 0x2F) (rows .of96-in-g3 n) (rows .no-meaning)))))))
+      gives-has P (eqb i (intermediateOf Of94 G0)) (rows .of94 G0 n)
+      (gives-has P (eqb i (intermediateOf Of94 G1)) (rows .of94 G1 n)
+      (gives-has P (eqb i (intermediateOf Of94 G2)) (rows .of94 G2 n)
+      (gives-has P (eqb i (intermediateOf Of94 G3)) (rows .of94 G3 n)
+      (gives-has P (eqb i (intermediateOf Of96 G1)) (rows .of96-in-g1 n)
+      (gives-has P (eqb i (intermediateOf Of96 G2)) (rows .of96-in-g2 n) (gives-has P (eqb i (intermediateOf Of96 G3)) (rows .of96-in-g3 n) (rows .no-meaning)))))))
 
   of-short : (f : ℕ) → P (shortDesignation f)
   unfolding shortDesignation
-  of-short f = gives-has P (between 0x40 0x42 f) (rows .of94 G0 Count.Two) (rows .no-meaning)
+  of-short f = gives-has P (isShort f) (rows .of94 G0 Count.Two) (rows .no-meaning)
 
   of-one : (i f : ℕ) → P (byIntermediate i f)
   unfolding byIntermediate
@@ -67,8 +68,8 @@ module _ (m : Form) (P : Meaning → Type 0) (rows : Rows m P) where
       gives-has P (eqb i 0x20) (rows .other)
       (gives-has P (eqb i 0x23) (rows .other)
       (gives-has P (eqb i 0x26) (rows .other)
-      (gives-has P (eqb i 0x21) (rows .controls ControlElement.C0)
-      (gives-has P (eqb i 0x22) (rows .controls ControlElement.C1)
+      (gives-has P (eqb i (intermediateOfControls ControlElement.C0)) (rows .controls ControlElement.C0)
+      (gives-has P (eqb i (intermediateOfControls ControlElement.C1)) (rows .controls ControlElement.C1)
       (gives-has P (eqb i several) (of-short f) (of-designation i Count.One))))))
 
   of-several : (j f : ℕ) → P (severalBytes j f)

@@ -12,5 +12,7 @@ pub mod Refusals
 pub mod Results
 pub mod LentBuffers
 pub mod Surveying
+pub mod WrittenForms
+pub mod Conversions
 pub mod Lister
 pub mod LatinGreek

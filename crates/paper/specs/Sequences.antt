@@ -3,7 +3,7 @@ use Prim.Native.Nat.{ℕ, _-_}
 use mathlib.Core.Bool.{Bool}
 use lib.Dec.{leb, eqb}
 use Rattle.paper.specs.Choice.{_gives_or_, between}
-use Rattle.paper.specs.Words.{Form, Seven, Eight, ControlElement, Element, G0, G1, G2, G3, Of94, Of96, Count}
+use Rattle.paper.specs.Words.{Form, Seven, Eight, ControlElement, Element, G0, G1, G2, G3, Kind, Of94, Of96, Count}
 use Rattle.paper.specs.Words.{Sets, SequenceByte, Intermediate, Final, Neither, Intermediates, Shift, LS0, LS1}
 use Rattle.paper.specs.Words.{LS2, LS3, LS1R, LS2R, LS3R, SS2, SS3, Meaning, NoMeaning, Function, Shifts}
 use Rattle.paper.specs.Words.{Refusal, Answer}
@@ -29,11 +29,20 @@ sequenceByte b =
     Neither
 
 -- the C1 function 0 to 31; function 14 is SS2 and 15 SS3
+abbrev pub functionOfSS2 : ℕ
+functionOfSS2 = 14
+
+abbrev pub functionOfSS3 : ℕ
+functionOfSS3 = 15
+
+abbrev pub lastFunction : ℕ
+lastFunction = 31
+
 unfoldable pub c1Function : ℕ → Meaning
 c1Function n =
-    eqb n 14 gives Shifts SS2 or
-    eqb n 15 gives Shifts SS3 or
-    leb n 31 gives Function n or
+    eqb n functionOfSS2 gives Shifts SS2 or
+    eqb n functionOfSS3 gives Shifts SS3 or
+    leb n lastFunction gives Function n or
     NoMeaning
 
 -- a shift into GR, which has no meaning in 7-bit form (H)
@@ -51,24 +60,39 @@ shiftOrOther m f =
     eqb f 0x7C gives rightShift m LS3R or
     Meaning.Other
 
+-- the final of the C1 function 0
+abbrev pub finalOfFunction : ℕ
+finalOfFunction = 0x40
+
 -- ESC F
 unfoldable pub meaningOfNone : Form → ℕ → Meaning
 meaningOfNone m f =
     between firstFinal 0x3F f gives Meaning.Other or
-    between 0x40 0x5F f gives c1Function (f - 0x40) or
+    between finalOfFunction 0x5F f gives c1Function (f - finalOfFunction) or
     between 0x60 lastFinal f gives shiftOrOther m f or
     NoMeaning
 
--- 2/8 to 2/11: a 94 set into G0 to G3; 2/13 to 2/15: a 96 set into G1 to G3
+-- 2/8 to 2/11: a 94 set into G0 to G3; 2/13 to 2/15: a 96 set into G1 to G3. The place of a 96 set into G0, 2/12, is not read:
+-- G0 is never of 96 type
+abbrev pub intermediateOf : Kind → Element → ℕ
+intermediateOf Of94 G0 = 0x28
+intermediateOf Of94 G1 = 0x29
+intermediateOf Of94 G2 = 0x2A
+intermediateOf Of94 G3 = 0x2B
+intermediateOf Of96 G0 = 0x2C
+intermediateOf Of96 G1 = 0x2D
+intermediateOf Of96 G2 = 0x2E
+intermediateOf Of96 G3 = 0x2F
+
 unfoldable pub designation : ℕ → Count → Meaning
 designation i n =
-    eqb i 0x28 gives Meaning.Designate G0 Of94 n or
-    eqb i 0x29 gives Meaning.Designate G1 Of94 n or
-    eqb i 0x2A gives Meaning.Designate G2 Of94 n or
-    eqb i 0x2B gives Meaning.Designate G3 Of94 n or
-    eqb i 0x2D gives Meaning.Designate G1 Of96 n or
-    eqb i 0x2E gives Meaning.Designate G2 Of96 n or
-    eqb i 0x2F gives Meaning.Designate G3 Of96 n or
+    eqb i (intermediateOf Of94 G0) gives Meaning.Designate G0 Of94 n or
+    eqb i (intermediateOf Of94 G1) gives Meaning.Designate G1 Of94 n or
+    eqb i (intermediateOf Of94 G2) gives Meaning.Designate G2 Of94 n or
+    eqb i (intermediateOf Of94 G3) gives Meaning.Designate G3 Of94 n or
+    eqb i (intermediateOf Of96 G1) gives Meaning.Designate G1 Of96 n or
+    eqb i (intermediateOf Of96 G2) gives Meaning.Designate G2 Of96 n or
+    eqb i (intermediateOf Of96 G3) gives Meaning.Designate G3 Of96 n or
     NoMeaning
 
 -- the intermediate that leads to sets of several bytes
@@ -76,8 +100,16 @@ abbrev pub several : ℕ
 several = 0x24
 
 -- ESC 2/4 F, F 4/0 to 4/2: a 94 set of 2 bytes into G0
+abbrev pub isShort : ℕ → Bool
+isShort f = between 0x40 0x42 f
+
 unfoldable pub shortDesignation : ℕ → Meaning
-shortDesignation f = between 0x40 0x42 f gives Meaning.Designate G0 Of94 Count.Two or NoMeaning
+shortDesignation f = isShort f gives Meaning.Designate G0 Of94 Count.Two or NoMeaning
+
+-- 2/1, 2/2: designate C0, C1
+abbrev pub intermediateOfControls : ControlElement → ℕ
+intermediateOfControls ControlElement.C0 = 0x21
+intermediateOfControls ControlElement.C1 = 0x22
 
 -- ESC I F, F any final
 unfoldable pub byIntermediate : ℕ → ℕ → Meaning
@@ -85,8 +117,8 @@ byIntermediate i f =
     eqb i 0x20 gives Meaning.Other or
     eqb i 0x23 gives Meaning.Other or
     eqb i 0x26 gives Meaning.Other or
-    eqb i 0x21 gives Meaning.DesignateControls ControlElement.C0 or
-    eqb i 0x22 gives Meaning.DesignateControls ControlElement.C1 or
+    eqb i (intermediateOfControls ControlElement.C0) gives Meaning.DesignateControls ControlElement.C0 or
+    eqb i (intermediateOfControls ControlElement.C1) gives Meaning.DesignateControls ControlElement.C1 or
     eqb i several gives shortDesignation f or
     designation i Count.One
 

@@ -34,6 +34,11 @@ abbrev pub firstRefusal : List Placed → FirstRefusal
 firstRefusal [] = Never
 firstRefusal (a ∷ l) = refusalOr (firstRefusal l) (a .offset) (a .answer)
 
+-- the first of two refusals, where the second comes later
+abbrev pub firstOf : FirstRefusal → FirstRefusal → FirstRefusal
+firstOf Never second = second
+firstOf (First n at) second = First n at
+
 abbrev pub figuresOf : Form → List ℕ → Figures
 figuresOf m l = record {
   characters = howMany charWord (answersOf m l);
