@@ -24,6 +24,7 @@ pub mod ReadersThatTextsLeadTo
 pub mod OpeningMakesTheStart
 pub mod SilenceAndInStepAgain
 pub mod SilenceAndInStepAgainWorked
+pub mod WrittenTurnByTurn
 pub mod ListingInPieces
 pub mod Examples
 pub mod ExamplesOfListings

@@ -1,0 +1,186 @@
+-- Writing turn by turn, an answer at a time, is writing the sequence: nothing is written of the answers that the sequence leaves out,
+-- and they leave the writer as it was. All along the writer has the reader's sets, since what an answer does to these is said by the
+-- answer itself.
+use Prim.Native.Nat.{ℕ, suc, _-_}
+use mathlib.Core.Path.{_≡_, refl, sym, ap, _∙_}
+use mathlib.Core.List.{List, [], _∷_, _++_}
+use lib.Dec.{ltb, eqb}
+use Rattle.paper.specs.Choice.{_gives_or_}
+use Rattle.paper.specs.Words.{Form, Seven, Eight, Area, Element, Set, SetByte, OfSpace, OfDelete, OfSet, Outside}
+use Rattle.paper.specs.Words.{SequenceByte, Intermediate, Final, Neither, Intermediates, Meaning, NoMeaning, Function, Shifts}
+use Rattle.paper.specs.Words.{GraphicArea, PositionBytes, Within, Standing, Reader, Answer, Answered}
+use Rattle.paper.specs.Words.{FirstRefusal, Never}
+use Rattle.paper.specs.CodeTable.{areaOf, formHas, bit8, so, si, esc}
+use Rattle.paper.specs.Sets.{bytesOf, setIn}
+use Rattle.paper.specs.Sequences.{sequenceByte, c1Function, meaningOf}
+use Rattle.paper.specs.Characters.{c0Byte, positionIn, byteIn, bytesSoFar, withByte, character, ofCharacter, firstInGL}
+use Rattle.paper.specs.Answering.{means, intermediate, sequenceAt, groundAt, answerWithin, answerInStep, answerStanding, answerTo}
+use Rattle.paper.specs.Texts.{answersFrom}
+use Rattle.paper.specs.Surveying.{firstRefusal, refusalOr}
+use Rattle.paper.specs.WrittenForms.{leftOut, sequenceIn, Writer, writtenFor, setsWith, writerAfter, writtenFrom}
+use Rattle.paper.proofs.Choices.{impossible, gives-has}
+use Rattle.paper.proofs.LawfulAnswers.{IsInStep}
+
+-- ---- a turn
+
+-- nothing more is written from the first refusal on
+abbrev pub unlessRefused : Answer → List ℕ → List ℕ
+unlessRefused Answer.NothingYet more = more
+unlessRefused (Answer.Char e x p) more = more
+unlessRefused Answer.Space more = more
+unlessRefused Answer.Delete more = more
+unlessRefused (Answer.Control w f n) more = more
+unlessRefused (Answer.DesignateControls w f) more = more
+unlessRefused (Answer.Designate e x) more = more
+unlessRefused (Answer.Shift h) more = more
+unlessRefused (Answer.Other s f) more = more
+unlessRefused (Answer.Refused r) more = []
+unlessRefused Answer.Skipped more = more
+unlessRefused (Answer.InStep n) more = more
+
+abbrev pub turnByTurn : Form → Writer → Reader → List ℕ → List ℕ
+turnByTurn to w r [] = []
+turnByTurn to w r (b ∷ bs) =
+    let a = answerTo r b .answer in
+    writtenFor to w a ++ unlessRefused a (turnByTurn to (writerAfter to w a) (answerTo r b .reader) bs)
+
+-- an answer joins the sequence or is left out; either way its bytes come first
+turn-of : (a : Answer) (to : Form) (w : Writer) (l : List Answer) →
+    writtenFrom to w (leftOut a gives l or a ∷ l) ≡ writtenFor to w a ++ writtenFrom to (writerAfter to w a) l
+turn-of Answer.NothingYet Seven w l = refl
+turn-of Answer.NothingYet Eight w l = refl
+turn-of (Answer.Char e x p) to w l = refl
+turn-of Answer.Space to w l = refl
+turn-of Answer.Delete to w l = refl
+turn-of (Answer.Control v f n) to w l = refl
+turn-of (Answer.DesignateControls v f) to w l = refl
+turn-of (Answer.Designate e x) to w l = refl
+turn-of (Answer.Shift h) Seven w l = refl
+turn-of (Answer.Shift h) Eight w l = refl
+turn-of (Answer.Other s f) to w l = refl
+turn-of (Answer.Refused r) to w l = refl
+turn-of Answer.Skipped to w l = refl
+turn-of (Answer.InStep n) to w l = refl
+
+-- one turn, whatever its answer is
+pub one-turn : (to : Form) (w : Writer) (at : ℕ) (r : Reader) (b : ℕ) (bs : List ℕ) →
+    let a = answerTo r b .answer in
+    writtenFrom to w (sequenceIn (answersFrom at r (b ∷ bs))) ≡
+    writtenFor to w a ++ writtenFrom to (writerAfter to w a) (sequenceIn (answersFrom (suc at) (answerTo r b .reader) bs))
+one-turn to w at r b bs = turn-of (answerTo r b .answer) to w (sequenceIn (answersFrom (suc at) (answerTo r b .reader) bs))
+
+-- ---- all turns
+
+-- the sequence does not depend on where the text is
+pub sequence-anywhere : (l : List ℕ) (r : Reader) (at there : ℕ) → sequenceIn (answersFrom at r l) ≡ sequenceIn (answersFrom there r l)
+sequence-anywhere [] r at there = refl
+sequence-anywhere (b ∷ bs) r at there =
+    let a = answerTo r b .answer in
+    ap (λ (l : List Answer). leftOut a gives l or a ∷ l) (sequence-anywhere bs (answerTo r b .reader) (suc at) (suc there))
+
+-- where this answer and those after it refuse nothing, those after it do not, and what follows is written
+goes-on : (a : Answer) (at : ℕ) (later : FirstRefusal) (more : List ℕ) → refusalOr later at a ≡ Never →
+    (later ≡ Never) × (unlessRefused a more ≡ more)
+goes-on Answer.NothingYet at later more h = (h, refl)
+goes-on (Answer.Char e x p) at later more h = (h, refl)
+goes-on Answer.Space at later more h = (h, refl)
+goes-on Answer.Delete at later more h = (h, refl)
+goes-on (Answer.Control w f n) at later more h = (h, refl)
+goes-on (Answer.DesignateControls w f) at later more h = (h, refl)
+goes-on (Answer.Designate e x) at later more h = (h, refl)
+goes-on (Answer.Shift s) at later more h = (h, refl)
+goes-on (Answer.Other s f) at later more h = (h, refl)
+goes-on (Answer.Refused n) at later more h = impossible (cc)
+goes-on Answer.Skipped at later more h = (h, refl)
+goes-on (Answer.InStep n) at later more h = (h, refl)
+
+pub written-turn-by-turn : (to : Form) (l : List ℕ) (w : Writer) (r : Reader) (at : ℕ) → firstRefusal (answersFrom at r l) ≡ Never →
+    turnByTurn to w r l ≡ writtenFrom to w (sequenceIn (answersFrom at r l))
+written-turn-by-turn to [] w r at h = refl
+written-turn-by-turn to (b ∷ bs) w r at h =
+    let a = answerTo r b .answer in
+    let next : Reader = answerTo r b .reader in
+    let on = goes-on a at (firstRefusal (answersFrom (suc at) next bs)) (turnByTurn to (writerAfter to w a) next bs) h in
+    ap (λ (more : List ℕ). writtenFor to w a ++ more)
+    (on .1 ∙ written-turn-by-turn to bs (writerAfter to w a) next (suc at) (on .0)) ∙
+    sym (one-turn to w at r b bs)
+
+-- ---- the writer's sets are the reader's
+
+module _ (r : Reader) (b : ℕ) where
+  abbrev Told : Answered → Type 0
+  Told a = a .reader .sets ≡ setsWith (r .sets) (a .answer)
+
+  told-c0 : Told (c0Byte b r)
+  unfolding c0Byte
+  told-c0 = gives-has Told (eqb b esc) refl (gives-has Told (eqb b so) refl (gives-has Told (eqb b si) refl refl))
+
+  told-character : (e : Element) (x : Set) (a : GraphicArea) (p : PositionBytes) → Told (character e x a p r)
+  unfolding character
+  told-character e x a p = gives-has Told (ltb (bytesSoFar p) (bytesOf (x .count))) refl refl
+
+  told-of : (s : SetByte) (e : Element) (x : Set) (a : GraphicArea) (p : PositionBytes) → Told (ofCharacter s e x a p b r)
+  told-of OfSpace e x a p = refl
+  told-of OfDelete e x a p = refl
+  told-of OfSet e x a p = told-character e x a p
+  told-of Outside e x a p = refl
+
+  told-first : (s : SetByte) (e : Element) (x : Set) → Told (firstInGL s e x b r)
+  told-first OfSpace e x = refl
+  told-first OfDelete e x = refl
+  told-first OfSet e x = told-character e x GraphicArea.GL (PositionBytes.One b)
+  told-first Outside e x = refl
+
+  told-means : (w : Meaning) (s : Intermediates) → Told (means w s b r)
+  unfolding means
+  told-means NoMeaning s = refl
+  told-means Meaning.Other s = refl
+  told-means (Function n) s = refl
+  told-means (Shifts h) s = refl
+  told-means (Meaning.DesignateControls w) s = refl
+  told-means (Meaning.Designate e k n) s = refl
+
+  told-intermediate : (s : Intermediates) → Told (intermediate s b r)
+  told-intermediate Intermediates.None = refl
+  told-intermediate (Intermediates.One i) = refl
+  told-intermediate (Intermediates.Two i j) = refl
+
+  told-sequence : (k : SequenceByte) (s : Intermediates) → Told (sequenceAt k s b r)
+  told-sequence Intermediate s = told-intermediate s
+  told-sequence Final s = told-means (meaningOf (r .form) s b) s
+  told-sequence Neither s = refl
+
+  told-ground : (a : Area) → Told (groundAt a b r)
+  told-ground Area.C0 = told-c0
+  told-ground Area.GL = let x = setIn (r .sets) (r .gl) in told-first (byteIn GraphicArea.GL (x .kind) b) (r .gl) x
+  told-ground Area.C1 = told-means (c1Function (b - bit8)) Intermediates.None
+  told-ground Area.GR =
+      let x = setIn (r .sets) (r .gr) in
+      told-of (byteIn GraphicArea.GR (x .kind) b) (r .gr) x GraphicArea.GR (PositionBytes.One (positionIn GraphicArea.GR b))
+
+  told-within : (w : Within) → Told (answerWithin w b r)
+  told-within Within.Ground = told-ground (areaOf b)
+  told-within (Within.Sequence s) = told-sequence (sequenceByte b) s
+  told-within (Within.SingleShift e) =
+      let x = setIn (r .sets) e in told-of (byteIn GraphicArea.GL (x .kind) b) e x GraphicArea.GL (PositionBytes.One b)
+  told-within (Within.Character e a p) =
+      let x = setIn (r .sets) e in told-of (byteIn a (x .kind) b) e x a (withByte p (positionIn a b))
+
+  -- refusals too leave the sets
+  pub in-step-told : (w : Within) → Told (answerInStep w b r)
+  unfolding answerInStep
+  in-step-told w = gives-has Told (formHas (r .form) b) (told-within w) refl
+
+  told-standing : (s : Standing) → IsInStep s → Told (answerStanding s b r)
+  told-standing (Standing.InStep w) h = in-step-told w
+  told-standing (Standing.Lost k n) h = absurd h
+
+  pub sets-by-the-answer : IsInStep (r .standing) → answerTo r b .reader .sets ≡ setsWith (r .sets) (answerTo r b .answer)
+  unfolding answerTo
+  sets-by-the-answer h = told-standing (r .standing) h
+
+-- so a writer that has the reader's sets before a byte has them after it
+pub same-sets-on : (to : Form) (w : Writer) (r : Reader) (b : ℕ) → IsInStep (r .standing) → w .sets ≡ r .sets →
+    writerAfter to w (answerTo r b .answer) .sets ≡ answerTo r b .reader .sets
+same-sets-on to w r b h same =
+    ap (λ t. setsWith t (answerTo r b .answer)) same ∙ sym (sets-by-the-answer r b h)
