@@ -6,7 +6,7 @@ use mathlib.Core.Bool.{Bool, true, false}
 use mathlib.Core.List.{List, [], _∷_, map}
 use native.Mathlib.Nat.{add-zero, add-suc, suc-add, le-of-suc-le-suc, not-suc-le-zero}
 use native.Mathlib.Omega.{arith}
-use borrow.Author.Tests.{leb-true}
+use borrow.Author.Tests.{leb-true, le-leb, lt-leb}
 use lib.Dec.{leb}
 use lib.ListN.{getD}
 use Rattle.paper.specs.Choice.{_gives_or_, between, numbers}
@@ -19,6 +19,11 @@ pub gives-has : {A : Type 0} (P : A → Type 0) (t : Bool) {a b : A} → P a →
 gives-has P true p q = p
 gives-has P false p q = q
 
+-- and where each row may use what the tests before it and its own said
+pub gives-by : {A : Type 0} (P : A → Type 0) (t : Bool) {a b : A} → (t ≡ true → P a) → (t ≡ false → P b) → P (t gives a or b)
+gives-by P true p q = p refl
+gives-by P false p q = q refl
+
 both-true : (s t : Bool) → (s gives t or false) ≡ true → (s ≡ true) × (t ≡ true)
 both-true true t e = (refl, e)
 both-true false t e = impossible (cc)
@@ -28,6 +33,18 @@ unfolding between
 between-bounds first last n e =
     let h = both-true (leb first n) (leb n last) e in
     (leb-true first n (h .0), leb-true n last (h .1))
+
+pub in-bounds : (first last n : ℕ) → first ≤ n → n ≤ last → between first last n ≡ true
+unfolding between
+in-bounds first last n low high = rw (le-leb first n low, le-leb n last high)
+
+pub below-bounds : (first last n : ℕ) → n < first → between first last n ≡ false
+unfolding between
+below-bounds first last n low = rw (lt-leb first n low)
+
+pub above-bounds : (first last n : ℕ) → first ≤ n → last < n → between first last n ≡ false
+unfolding between
+above-bounds first last n low high = rw (le-leb first n low, lt-leb n last high)
 
 -- the function of a list's entries, against the function of the numbers that follow each other
 pub alike : {A : Type 0} (f g : ℕ → A) (l : List ℕ) (n first : ℕ) → map f l ≡ map g (numbers n first) →

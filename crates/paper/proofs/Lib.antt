@@ -25,6 +25,9 @@ pub mod OpeningMakesTheStart
 pub mod SilenceAndInStepAgain
 pub mod SilenceAndInStepAgainWorked
 pub mod WrittenTurnByTurn
+pub mod OtherInAnyForm
+pub mod WhatCanBeWritten
+pub mod AnswersThatCanBeWritten
 pub mod ListingInPieces
 pub mod Examples
 pub mod ExamplesOfListings

@@ -15,26 +15,26 @@ KeepsGR (Shifts h) = (e : Element) → grAfter e h ≡ e
 KeepsGR (Meaning.DesignateControls w) = Unit {0}
 KeepsGR (Meaning.Designate e k n) = Unit {0}
 
-rows : Rows Seven KeepsGR
-rows = record {
+rows : (f : ℕ) → Rows Seven f KeepsGR
+rows f = record {
   no-meaning = tt;
   other = tt;
-  function = λ n. tt;
+  function = λ n e. tt;
   ss2 = λ e. refl;
   ss3 = λ e. refl;
   ls2 = λ e. refl;
   ls3 = λ e. refl;
   right = λ h. tt;
   controls = λ w. tt;
-  of94 = λ e n. tt;
-  of96-in-g1 = λ n. tt;
-  of96-in-g2 = λ n. tt;
-  of96-in-g3 = λ n. tt;
+  of94 = λ e n lasts. tt;
+  of96-in-g1 = λ n lasts. tt;
+  of96-in-g2 = λ n lasts. tt;
+  of96-in-g3 = λ n lasts. tt;
 }
 
 pub function-keeps-gr : (n : ℕ) → KeepsGR (c1Function n)
-function-keeps-gr = every-c1-function Seven KeepsGR rows
+function-keeps-gr n = every-c1-function Seven n KeepsGR (rows n) n
 
 pub sequence-keeps-gr : (m : Form) → m ≡ Seven → (s : Intermediates) (f : ℕ) → KeepsGR (meaningOf m s f)
-sequence-keeps-gr Seven e s f = every-meaning Seven KeepsGR rows s f
+sequence-keeps-gr Seven e s f = every-meaning Seven f KeepsGR (rows f) s
 sequence-keeps-gr Eight e s f = impossible (cc)

@@ -79,7 +79,7 @@ sequence-anywhere (b ∷ bs) r at there =
     ap (λ (l : List Answer). leftOut a gives l or a ∷ l) (sequence-anywhere bs (answerTo r b .reader) (suc at) (suc there))
 
 -- where this answer and those after it refuse nothing, those after it do not, and what follows is written
-goes-on : (a : Answer) (at : ℕ) (later : FirstRefusal) (more : List ℕ) → refusalOr later at a ≡ Never →
+pub goes-on : (a : Answer) (at : ℕ) (later : FirstRefusal) (more : List ℕ) → refusalOr later at a ≡ Never →
     (later ≡ Never) × (unlessRefused a more ≡ more)
 goes-on Answer.NothingYet at later more h = (h, refl)
 goes-on (Answer.Char e x p) at later more h = (h, refl)

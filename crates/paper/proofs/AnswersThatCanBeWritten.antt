@@ -1,0 +1,241 @@
+-- What a reader in step hands out can be written, by one walk over the definitions; and so, answer by answer, is the sequence of
+-- every text without a refusal. Carried along is that what is read so far of a sequence or a character is fit to become one.
+use Prim.Native.Nat.{ℕ, suc, _-_, _≤_, _<_}
+use mathlib.Core.Path.{_≡_, refl, subst, ap}
+use mathlib.Core.List.{List, [], _∷_}
+use native.Mathlib.Omega.{arith}
+use borrow.Author.Tests.{ltb-true, ltb-false}
+use lib.Dec.{ltb, leb, eqb}
+use Rattle.paper.specs.Choice.{_gives_or_}
+use Rattle.paper.specs.Words.{Form, Seven, Eight, Area, Element, Kind, Count, Sets, SetByte, OfSpace, OfDelete, OfSet, Outside}
+use Rattle.paper.specs.Words.{SequenceByte, Intermediate, Final, Neither, Intermediates, Shift, LS0, LS1, LS2, LS3, LS1R, LS2R}
+use Rattle.paper.specs.Words.{LS3R, SS2, SS3, Meaning, NoMeaning, Function, Shifts, GraphicArea, PositionBytes, Within, Standing}
+use Rattle.paper.specs.Words.{Reader, Refusal, Answer, Answered, FirstRefusal, Never}
+use Rattle.paper.specs.CodeTable.{areaOf, formHas, bit8, so, si, esc}
+use Rattle.paper.specs.Sets.{bytesOf, setIn, setByte}
+use Rattle.paper.specs.Sequences.{functionOfSS2, functionOfSS3, lastFunction, sequenceByte, c1Function, meaningOf, rightShift}
+use Rattle.paper.specs.Characters.{refuses, c0Byte, positionIn, byteIn, bytesSoFar, withByte, character, ofCharacter, firstInGL}
+use Rattle.paper.specs.Characters.{afterShift}
+use Rattle.paper.specs.Answering.{means, intermediate, sequenceAt, groundAt, answerWithin, answerInStep, answerStanding, answerTo}
+use Rattle.paper.specs.Texts.{answersFrom}
+use Rattle.paper.specs.Surveying.{firstRefusal, refusalOr}
+use Rattle.paper.specs.WrittenForms.{leftOut, sequenceIn, setsWith}
+use Rattle.paper.proofs.Choices.{impossible, gives-has, gives-by}
+use Rattle.paper.proofs.TableOfSequences.{Lasts, Rows, every-meaning}
+use Rattle.paper.proofs.LawfulAnswers.{IsInStep}
+use Rattle.paper.proofs.WrittenTurnByTurn.{goes-on, sets-by-the-answer}
+use Rattle.paper.proofs.WhatCanBeWritten.{AllOfSet, AllIntermediate, MayHave, CanBeWritten, AllCanBeWritten}
+use Rattle.paper.proofs.WhatCanBeWritten.{SoFar, Stands, NotRefused}
+use Rattle.paper.proofs.OtherInAnyForm.{other-in-any-form}
+
+-- ---- a byte of a character
+
+one-at-least : (n : Count) → 1 ≤ bytesOf n
+one-at-least Count.One = omega arith
+one-at-least Count.Two = omega arith
+one-at-least Count.Three = omega arith
+
+with-fits : (k : Kind) (p : PositionBytes) (b : ℕ) → AllOfSet k p → setByte k b ≡ OfSet → AllOfSet k (withByte p b)
+with-fits k (PositionBytes.One a) c h e = (h, e)
+with-fits k (PositionBytes.Two a b) c h e = (h .0, h .1, e)
+with-fits k (PositionBytes.Three a b c) d h e = h
+
+with-more : (p : PositionBytes) (b n : ℕ) → bytesSoFar p < n → bytesSoFar (withByte p b) ≤ n
+with-more (PositionBytes.One a) b n h = h
+with-more (PositionBytes.Two a b) c n h = h
+with-more (PositionBytes.Three a b c) d n h = omega arith
+
+-- a byte of the set in an area is of the set once bit 8 is taken off
+of-set-in : (a : GraphicArea) (k : Kind) (b : ℕ) → byteIn a k b ≡ OfSet → setByte k (positionIn a b) ≡ OfSet
+unfolding byteIn
+of-set-in GraphicArea.GL k b e = e
+of-set-in GraphicArea.GR k b e =
+    gives-has (λ s. s ≡ OfSet → setByte k (positionIn GraphicArea.GR b) ≡ OfSet) (leb bit8 b) (λ h. h) (λ h. impossible (cc)) e
+
+-- ---- what a final means
+
+shift-stands : (h : Shift) (t : Sets) → SoFar t (afterShift h)
+shift-stands LS0 t = tt
+shift-stands LS1 t = tt
+shift-stands LS2 t = tt
+shift-stands LS3 t = tt
+shift-stands LS1R t = tt
+shift-stands LS2R t = tt
+shift-stands LS3R t = tt
+shift-stands SS2 t = tt
+shift-stands SS3 t = tt
+
+abbrev Becomes : ℕ → Meaning → Type 0
+Becomes f NoMeaning = Unit {0}
+Becomes f Meaning.Other = Unit {0}
+Becomes f (Function n) = c1Function n ≡ Function n
+Becomes f (Shifts h) = Unit {0}
+Becomes f (Meaning.DesignateControls w) = Unit {0}
+Becomes f (Meaning.Designate e k n) = MayHave e k × Lasts n f
+
+becomes-right : (m : Form) (f : ℕ) (h : Shift) → Becomes f (rightShift m h)
+becomes-right Seven f h = tt
+becomes-right Eight f h = tt
+
+becomes : (m : Form) (f : ℕ) → Rows m f (Becomes f)
+becomes m f = record {
+  no-meaning = tt;
+  other = tt;
+  function = λ n e. e;
+  ss2 = tt;
+  ss3 = tt;
+  ls2 = tt;
+  ls3 = tt;
+  right = becomes-right m f;
+  controls = λ w. tt;
+  of94 = λ e n lasts. (tt, lasts);
+  of96-in-g1 = λ n lasts. (tt, lasts);
+  of96-in-g2 = λ n lasts. (tt, lasts);
+  of96-in-g3 = λ n lasts. (tt, lasts);
+}
+
+-- ---- an answer
+
+module _ (r : Reader) (b : ℕ) where
+  -- an answer that refuses nothing can be written, and leaves a reader that is fit
+  abbrev Fair : Answered → Type 0
+  Fair a = NotRefused (a .answer) → CanBeWritten (r .sets) (a .answer) × Stands (a .reader .sets) (a .reader .standing)
+
+  fair-refusal : (n : Refusal) → Fair (refuses n b r)
+  fair-refusal n ok = absurd (ok n refl)
+
+  fair-c0 : areaOf b ≡ Area.C0 → Fair (c0Byte b r)
+  unfolding c0Byte
+  fair-c0 area =
+      gives-by Fair (eqb b esc) (λ x ok. (tt, tt))
+      (λ not-esc. gives-by Fair (eqb b so) (λ x ok. (tt, tt))
+      (λ not-so. gives-by Fair (eqb b si) (λ x ok. (tt, tt))
+      (λ not-si ok. (record { of-element = refl; area = area; not-esc = not-esc; not-so = not-so; not-si = not-si }, tt))))
+
+  fair-character : (e : Element) (a : GraphicArea) (p : PositionBytes) → AllOfSet (setIn (r .sets) e .kind) p →
+      bytesSoFar p ≤ bytesOf (setIn (r .sets) e .count) → Fair (character e (setIn (r .sets) e) a p r)
+  unfolding character
+  fair-character e a p fits most =
+      let n : ℕ = bytesOf (setIn (r .sets) e .count) in
+      gives-by Fair (ltb (bytesSoFar p) n) (λ more ok. (tt, (fits, ltb-true (bytesSoFar p) n more)))
+      (λ all ok. (record { of-element = refl; whole = omega (arith, ltb-false (bytesSoFar p) n all); of-set = fits }, tt))
+
+  fair-of : (s : SetByte) (e : Element) (a : GraphicArea) (p : PositionBytes) →
+      (s ≡ OfSet → Fair (character e (setIn (r .sets) e) a p r)) → Fair (ofCharacter s e (setIn (r .sets) e) a p b r)
+  fair-of OfSpace e a p h = fair-refusal Refusal.NotOfSet
+  fair-of OfDelete e a p h = fair-refusal Refusal.NotOfSet
+  fair-of OfSet e a p h = h refl
+  fair-of Outside e a p h = fair-refusal Refusal.AnotherArea
+
+  fair-first : (s : SetByte) (e : Element) → (s ≡ OfSet → setByte (setIn (r .sets) e .kind) b ≡ OfSet) →
+      Fair (firstInGL s e (setIn (r .sets) e) b r)
+  fair-first OfSpace e h ok = (tt, tt)
+  fair-first OfDelete e h ok = (tt, tt)
+  fair-first OfSet e h ok = fair-character e GraphicArea.GL (PositionBytes.One b) (h refl) (one-at-least (setIn (r .sets) e .count)) ok
+  fair-first Outside e h ok = fair-refusal Refusal.AnotherArea ok
+
+  -- a first byte from an area
+  fair-begins : (e : Element) (a : GraphicArea) → let x = setIn (r .sets) e in
+      Fair (ofCharacter (byteIn a (x .kind) b) e x a (PositionBytes.One (positionIn a b)) b r)
+  fair-begins e a =
+      let x = setIn (r .sets) e in
+      fair-of (byteIn a (x .kind) b) e a (PositionBytes.One (positionIn a b))
+      (λ s. fair-character e a (PositionBytes.One (positionIn a b)) (of-set-in a (x .kind) b s) (one-at-least (x .count)))
+
+  fair-means : (w : Meaning) (s : Intermediates) → meaningOf (r .form) s b ≡ w → Becomes b w → sequenceByte b ≡ Final →
+      AllIntermediate s → Fair (means w s b r)
+  unfolding means
+  fair-means NoMeaning s e h final leads ok = fair-refusal Refusal.WithoutMeaning ok
+  fair-means Meaning.Other s e h final leads ok =
+      (record { ends = final; leads = leads; other = λ m. other-in-any-form (r .form) m s b e }, tt)
+  fair-means (Function n) s e h final leads ok = (record { of-element = refl; no-shift = h }, tt)
+  fair-means (Shifts h) s e x final leads ok = (tt, shift-stands h (r .sets))
+  fair-means (Meaning.DesignateControls w) s e h final leads ok = (final, tt)
+  fair-means (Meaning.Designate g k n) s e h final leads ok = (record { ends = final; into = h .0; lasts = h .1 }, tt)
+
+  -- a C1 function by its byte
+  fair-function : (n : ℕ) → Fair (means (c1Function n) Intermediates.None b r)
+  unfolding c1Function means
+  fair-function n =
+      let P : Meaning → Type 0 = λ w. Fair (means w Intermediates.None b r) in
+      gives-by P (eqb n functionOfSS2) (λ x ok. (tt, tt))
+      (λ ss2. gives-by P (eqb n functionOfSS3) (λ x ok. (tt, tt))
+      (λ ss3. gives-by P (leb n lastFunction) (λ low ok. (record { of-element = refl; no-shift = rw (ss2, ss3, low) }, tt))
+      (λ high. fair-refusal Refusal.WithoutMeaning)))
+
+  fair-intermediate : (s : Intermediates) → sequenceByte b ≡ Intermediate → AllIntermediate s → Fair (intermediate s b r)
+  fair-intermediate Intermediates.None e leads ok = (tt, e)
+  fair-intermediate (Intermediates.One i) e leads ok = (tt, (leads, e))
+  fair-intermediate (Intermediates.Two i j) e leads ok = fair-refusal Refusal.ThirdIntermediate ok
+
+  fair-sequence : (k : SequenceByte) (s : Intermediates) → sequenceByte b ≡ k → AllIntermediate s → Fair (sequenceAt k s b r)
+  fair-sequence Intermediate s e leads = fair-intermediate s e leads
+  fair-sequence Final s e leads =
+      fair-means (meaningOf (r .form) s b) s refl (every-meaning (r .form) b (Becomes b) (becomes (r .form) b) s) e leads
+  fair-sequence Neither s e leads = fair-refusal Refusal.NotOfSequence
+
+  fair-ground : (a : Area) → areaOf b ≡ a → Fair (groundAt a b r)
+  unfolding byteIn
+  fair-ground Area.C0 e = fair-c0 e
+  fair-ground Area.GL e = fair-first (byteIn GraphicArea.GL (setIn (r .sets) (r .gl) .kind) b) (r .gl) (λ s. s)
+  fair-ground Area.C1 e = fair-function (b - bit8)
+  fair-ground Area.GR e = fair-begins (r .gr) GraphicArea.GR
+
+  fair-within : (w : Within) → SoFar (r .sets) w → Fair (answerWithin w b r)
+  fair-within Within.Ground h = fair-ground (areaOf b) refl
+  fair-within (Within.Sequence s) h = fair-sequence (sequenceByte b) s refl h
+  fair-within (Within.SingleShift e) h = fair-begins e GraphicArea.GL
+  fair-within (Within.Character e a p) h =
+      let x = setIn (r .sets) e in
+      fair-of (byteIn a (x .kind) b) e a (withByte p (positionIn a b))
+      (λ s. fair-character e a (withByte p (positionIn a b)) (with-fits (x .kind) p (positionIn a b) (h .0) (of-set-in a (x .kind) b s))
+      (with-more p (positionIn a b) (bytesOf (x .count)) (h .1)))
+
+  fair-standing : (s : Standing) → Stands (r .sets) s → Fair (answerStanding s b r)
+  unfolding answerInStep
+  fair-standing (Standing.InStep w) h =
+      gives-has Fair (formHas (r .form) b) (fair-within w h) (fair-refusal Refusal.ByteOfEightBits)
+  fair-standing (Standing.Lost k n) h = absurd h
+
+  fair-answer : Stands (r .sets) (r .standing) → Fair (answerTo r b)
+  unfolding answerTo
+  fair-answer h = fair-standing (r .standing) h
+
+-- ---- a text
+
+stands-in-step : (t : Sets) (s : Standing) → Stands t s → IsInStep s
+stands-in-step t (Standing.InStep w) h = tt
+stands-in-step t (Standing.Lost k n) h = absurd h
+
+-- where a text refuses nothing, its first answer is no refusal
+not-refused : (a : Answer) (at : ℕ) (later : FirstRefusal) → refusalOr later at a ≡ Never → NotRefused a
+not-refused a at later h n e = impossible (cc (ap (refusalOr later at) e))
+
+-- an answer that can be written joins what can be written, or is left out
+joins : (a : Answer) (t : Sets) (l : List Answer) → CanBeWritten t a → AllCanBeWritten (setsWith t a) l →
+    AllCanBeWritten t (leftOut a gives l or a ∷ l)
+joins Answer.NothingYet t l h more = more
+joins (Answer.Char e x p) t l h more = (h, more)
+joins Answer.Space t l h more = (h, more)
+joins Answer.Delete t l h more = (h, more)
+joins (Answer.Control w f n) t l h more = (h, more)
+joins (Answer.DesignateControls w f) t l h more = (h, more)
+joins (Answer.Designate e x) t l h more = (h, more)
+joins (Answer.Shift s) t l h more = more
+joins (Answer.Other s f) t l h more = (h, more)
+joins (Answer.Refused n) t l h more = absurd h
+joins Answer.Skipped t l h more = absurd h
+joins (Answer.InStep n) t l h more = absurd h
+
+pub can-be-written : (l : List ℕ) (r : Reader) (at : ℕ) → Stands (r .sets) (r .standing) → firstRefusal (answersFrom at r l) ≡ Never →
+    AllCanBeWritten (r .sets) (sequenceIn (answersFrom at r l))
+can-be-written [] r at h never = tt
+can-be-written (b ∷ bs) r at h never =
+    let a = answerTo r b .answer in
+    let next : Reader = answerTo r b .reader in
+    let later : FirstRefusal = firstRefusal (answersFrom (suc at) next bs) in
+    let fair = fair-answer r b h (not-refused a at later never) in
+    joins a (r .sets) (sequenceIn (answersFrom (suc at) next bs)) (fair .0)
+    (subst (λ (t : Sets). AllCanBeWritten t (sequenceIn (answersFrom (suc at) next bs)))
+    (sets-by-the-answer r b (stands-in-step (r .sets) (r .standing) h))
+    (can-be-written bs next (suc at) (fair .1) (goes-on a at later [] never .0)))
