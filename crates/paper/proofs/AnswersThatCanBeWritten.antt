@@ -215,14 +215,14 @@ not-refused a at later h n e = impossible (cc (ap (refusalOr later at) e))
 joins : (a : Answer) (t : Sets) (l : List Answer) → CanBeWritten t a → AllCanBeWritten (setsWith t a) l →
     AllCanBeWritten t (leftOut a gives l or a ∷ l)
 joins Answer.NothingYet t l h more = more
-joins (Answer.Char e x p) t l h more = (h, more)
-joins Answer.Space t l h more = (h, more)
-joins Answer.Delete t l h more = (h, more)
-joins (Answer.Control w f n) t l h more = (h, more)
-joins (Answer.DesignateControls w f) t l h more = (h, more)
-joins (Answer.Designate e x) t l h more = (h, more)
+joins (Answer.Char e x p) t l h more = (refl, h, more)
+joins Answer.Space t l h more = (refl, h, more)
+joins Answer.Delete t l h more = (refl, h, more)
+joins (Answer.Control w f n) t l h more = (refl, h, more)
+joins (Answer.DesignateControls w f) t l h more = (refl, h, more)
+joins (Answer.Designate e x) t l h more = (refl, h, more)
 joins (Answer.Shift s) t l h more = more
-joins (Answer.Other s f) t l h more = (h, more)
+joins (Answer.Other s f) t l h more = (refl, h, more)
 joins (Answer.Refused n) t l h more = absurd h
 joins Answer.Skipped t l h more = absurd h
 joins (Answer.InStep n) t l h more = absurd h

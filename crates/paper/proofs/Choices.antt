@@ -38,10 +38,6 @@ pub in-bounds : (first last n : ℕ) → first ≤ n → n ≤ last → between 
 unfolding between
 in-bounds first last n low high = rw (le-leb first n low, le-leb n last high)
 
-pub below-bounds : (first last n : ℕ) → n < first → between first last n ≡ false
-unfolding between
-below-bounds first last n low = rw (lt-leb first n low)
-
 pub above-bounds : (first last n : ℕ) → first ≤ n → last < n → between first last n ≡ false
 unfolding between
 above-bounds first last n low high = rw (le-leb first n low, lt-leb n last high)

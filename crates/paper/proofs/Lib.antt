@@ -28,6 +28,12 @@ pub mod WrittenTurnByTurn
 pub mod OtherInAnyForm
 pub mod WhatCanBeWritten
 pub mod AnswersThatCanBeWritten
+pub mod BytesThatAreWritten
+pub mod WrittenDesignations
+pub mod ReadingOn
+pub mod CharactersReadBack
+pub mod SequencesReadBack
+pub mod AnswersReadBack
 pub mod ListingInPieces
 pub mod Examples
 pub mod ExamplesOfListings

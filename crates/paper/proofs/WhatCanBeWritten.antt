@@ -13,7 +13,7 @@ use Rattle.paper.specs.CodeTable.{areaOf, so, si, esc}
 use Rattle.paper.specs.Sets.{bytesOf, setIn, setByte}
 use Rattle.paper.specs.Sequences.{sequenceByte, c1Function, meaningOf}
 use Rattle.paper.specs.Characters.{bytesSoFar}
-use Rattle.paper.specs.WrittenForms.{setsWith}
+use Rattle.paper.specs.WrittenForms.{leftOut, setsWith}
 use Rattle.paper.proofs.TableOfSequences.{Lasts}
 
 -- ---- parts of an answer
@@ -77,10 +77,10 @@ CanBeWritten t (Answer.Refused r) = ⊥
 CanBeWritten t Answer.Skipped = ⊥
 CanBeWritten t (Answer.InStep n) = ⊥
 
--- each answer by the sets at its place
+-- a sequence: none of its answers is one that is left out, and each can be written, by the sets at its place
 abbrev pub AllCanBeWritten : Sets → List Answer → Type 0
 AllCanBeWritten t [] = Unit {0}
-AllCanBeWritten t (a ∷ l) = CanBeWritten t a × AllCanBeWritten (setsWith t a) l
+AllCanBeWritten t (a ∷ l) = (leftOut a ≡ false) × CanBeWritten t a × AllCanBeWritten (setsWith t a) l
 
 -- ---- what is read so far
 
