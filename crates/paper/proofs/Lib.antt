@@ -34,6 +34,7 @@ pub mod ReadingOn
 pub mod CharactersReadBack
 pub mod SequencesReadBack
 pub mod AnswersReadBack
+pub mod SameSequence
 pub mod ListingInPieces
 pub mod Examples
 pub mod ExamplesOfListings
