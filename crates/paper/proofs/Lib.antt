@@ -35,6 +35,8 @@ pub mod CharactersReadBack
 pub mod SequencesReadBack
 pub mod AnswersReadBack
 pub mod SameSequence
+pub mod MostWritten
+pub mod OutputWithin
 pub mod ListingInPieces
 pub mod Examples
 pub mod ExamplesOfListings
