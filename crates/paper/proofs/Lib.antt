@@ -41,6 +41,7 @@ pub mod ListingInPieces
 pub mod Examples
 pub mod ExamplesOfListings
 pub mod ExamplesOfFigures
+pub mod ExamplesOfConversions
 pub mod LongestText
 pub mod ExamplesOfPositions
 pub mod ExamplesOfSequences

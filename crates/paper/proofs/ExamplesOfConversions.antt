@@ -1,0 +1,124 @@
+-- What some conversions answer, computed: the paper's examples beside P12, the short sequence where it is due, and the order of the
+-- refusals; each with the lent buffer afterwards.
+use Prim.Native.Nat.{ℕ}
+use mathlib.Core.Path.{_≡_, refl}
+use mathlib.Core.List.{List, [], _∷_, map}
+use lib.ListN.{length}
+use Rattle.paper.specs.Choice.{between}
+use Rattle.paper.specs.Words.{Form, Seven, Eight}
+use Rattle.paper.specs.CodeTable.{columnArea, formHasColumn, positionOf}
+use Rattle.paper.specs.Sets.{setByte}
+use Rattle.paper.specs.Sequences.{sequenceByte, c1Function, shiftOrOther, meaningOfNone, designation}
+use Rattle.paper.specs.Sequences.{shortDesignation, byIntermediate, meaningOfOne, severalBytes, meaningOfTwo}
+use Rattle.paper.specs.Searching.{matchedWith, oneMore}
+use Rattle.paper.specs.Characters.{c0Byte, byteIn, character}
+use Rattle.paper.specs.Answering.{means, answerInStep, answerLost, answerTo}
+use Rattle.paper.specs.Results.{returnedConversion}
+use Rattle.paper.specs.Conversions.{conversion, bufferAfter}
+use Rattle.paper.proofs.Examples.{shownNumber, unchanged}
+
+pub record Example : Type 0 where
+  pub from : Form
+  pub to : Form
+  pub bytes : List ℕ
+  -- how many bytes the lent buffer has
+  pub room : ℕ
+  -- refusal, place and length, and the buffer afterwards
+  pub returned : List ℕ
+  pub buffer : List ℕ
+
+abbrev pub conversionExamples : List Example
+conversionExamples =
+    -- 1B 7D C1 C2 to 7-bit, and back
+    record {
+      from = Eight;
+      to = Seven;
+      bytes = 0x1B ∷ 0x7D ∷ 0xC1 ∷ 0xC2 ∷ [];
+      room = 8;
+      returned = 0 ∷ 0 ∷ 6 ∷ [];
+      buffer = 0x1B ∷ 0x4E ∷ 0x41 ∷ 0x1B ∷ 0x4E ∷ 0x42 ∷ unchanged 2;
+    } ∷
+    record {
+      from = Seven;
+      to = Eight;
+      bytes = 0x1B ∷ 0x4E ∷ 0x41 ∷ 0x1B ∷ 0x4E ∷ 0x42 ∷ [];
+      room = 4;
+      returned = 0 ∷ 0 ∷ 4 ∷ [];
+      buffer = 0x8E ∷ 0x41 ∷ 0x8E ∷ 0x42 ∷ [];
+    } ∷
+    -- 85 and 1B 45 to each other
+    record { from = Eight; to = Seven; bytes = 0x85 ∷ []; room = 2; returned = 0 ∷ 0 ∷ 2 ∷ []; buffer = 0x1B ∷ 0x45 ∷ [] } ∷
+    record { from = Seven; to = Eight; bytes = 0x1B ∷ 0x45 ∷ []; room = 2; returned = 0 ∷ 0 ∷ 1 ∷ []; buffer = 0x85 ∷ unchanged 1 } ∷
+    -- empty gives empty
+    record { from = Eight; to = Seven; bytes = []; room = 0; returned = 0 ∷ 0 ∷ 0 ∷ []; buffer = [] } ∷
+    -- 1B: 7 at 1
+    record { from = Eight; to = Seven; bytes = 0x1B ∷ []; room = 2; returned = 7 ∷ 1 ∷ 0 ∷ []; buffer = unchanged 2 } ∷
+    -- P12 into 4 bytes: 9; into 5: accepted
+    record {
+      from = Eight;
+      to = Seven;
+      bytes = 0x41 ∷ 0xC1 ∷ 0x20 ∷ [];
+      room = 4;
+      returned = 9 ∷ 0 ∷ 0 ∷ [];
+      buffer = unchanged 4;
+    } ∷
+    record {
+      from = Eight;
+      to = Seven;
+      bytes = 0x41 ∷ 0xC1 ∷ 0x20 ∷ [];
+      room = 5;
+      returned = 0 ∷ 0 ∷ 5 ∷ [];
+      buffer = 0x41 ∷ 0x0E ∷ 0x41 ∷ 0x0F ∷ 0x20 ∷ [];
+    } ∷
+    -- the long sequence read, the short one written with F 4/2, and the long one with F 4/3
+    record {
+      from = Eight;
+      to = Eight;
+      bytes = 0x1B ∷ 0x24 ∷ 0x28 ∷ 0x42 ∷ 0x30 ∷ 0x21 ∷ [];
+      room = 5;
+      returned = 0 ∷ 0 ∷ 5 ∷ [];
+      buffer = 0x1B ∷ 0x24 ∷ 0x42 ∷ 0x30 ∷ 0x21 ∷ [];
+    } ∷
+    record {
+      from = Eight;
+      to = Eight;
+      bytes = 0x1B ∷ 0x24 ∷ 0x28 ∷ 0x43 ∷ [];
+      room = 4;
+      returned = 0 ∷ 0 ∷ 4 ∷ [];
+      buffer = 0x1B ∷ 0x24 ∷ 0x28 ∷ 0x43 ∷ [];
+    } ∷
+    -- 5 at 3 and 7 at 4 come before 9
+    record {
+      from = Eight;
+      to = Seven;
+      bytes = 0x1B ∷ 0x29 ∷ 0x42 ∷ 0xA0 ∷ [];
+      room = 0;
+      returned = 5 ∷ 3 ∷ 0 ∷ [];
+      buffer = [];
+    } ∷
+    record {
+      from = Eight;
+      to = Seven;
+      bytes = 0x1B ∷ 0x29 ∷ 0x42 ∷ 0x8E ∷ [];
+      room = 0;
+      returned = 7 ∷ 4 ∷ 0 ∷ [];
+      buffer = [];
+    } ∷
+    []
+
+-- what the definitions say of an example's bytes
+abbrev pub told : Example → Example
+told x = record {
+  from = x .from;
+  to = x .to;
+  bytes = x .bytes;
+  room = x .room;
+  returned = shownNumber (returnedConversion (conversion (x .from) (x .to) (x .bytes) (length (unchanged (x .room)))));
+  buffer = bufferAfter (x .from) (x .to) (x .bytes) (unchanged (x .room));
+}
+
+pub examples-of-conversions : map told conversionExamples ≡ conversionExamples
+unfolding between columnArea formHasColumn positionOf setByte sequenceByte c1Function shiftOrOther meaningOfNone
+    designation shortDesignation byIntermediate meaningOfOne severalBytes meaningOfTwo matchedWith oneMore
+    c0Byte byteIn character means answerInStep answerLost answerTo conversion
+examples-of-conversions = refl
