@@ -29,21 +29,26 @@ reader-at-start : (m : Form) → readerOf m writerAtStart ≡ started m
 reader-at-start Seven = refl
 reader-at-start Eight = refl
 
+output-reads-back : (from to : Form) (text : List ℕ) → firstRefusal (answersOf from text) ≡ Never →
+    ReadsAs (started to) (output from to text) (sequenceOf from text)
+output-reads-back from to text never =
+    subst (λ (r : Reader). ReadsAs r (output from to text) (sequenceOf from text)) (reader-at-start to)
+    (sequence-reads-back to (sequenceOf from text) writerAtStart refl (can-be-written text (started from) 0 tt never))
+
+-- what refuses nothing and ends whole is accepted
+accepted-where : (m : Form) (text : List ℕ) → firstRefusal (answersOf m text) ≡ Never → endWord m text ≡ EndWord.Whole → Accepted m text
+accepted-where m text never whole =
+    ap (λ (x : FirstRefusal). firstOf x (refusalAtEnd (endWord m text) (length text))) never ∙
+    ap (λ (e : EndWord). refusalAtEnd e (length text)) whole
+
 -- once over both directions
 pub same-sequence : (from to : Form) (text : List ℕ) → Accepted from text →
     let bytes = output from to text in
     Accepted to bytes × (endWord to bytes ≡ EndWord.Whole) × (sequenceOf to bytes ≡ sequenceOf from text)
 same-sequence from to text accepted =
-    let bytes : List ℕ = output from to text in
     let never = first-never (firstRefusal (answersOf from text)) (refusalAtEnd (endWord from text) (length text)) accepted in
-    let reads : ReadsAs (started to) bytes (sequenceOf from text) =
-    subst (λ (r : Reader). ReadsAs r bytes (sequenceOf from text)) (reader-at-start to)
-    (sequence-reads-back to (sequenceOf from text) writerAtStart refl (can-be-written text (started from) 0 tt never)) in (
-      ap (λ (x : FirstRefusal). firstOf x (refusalAtEnd (endWord to bytes) (length bytes))) (reads .never 0) ∙
-          ap (λ (e : EndWord). refusalAtEnd e (length bytes)) (reads .whole),
-      reads .whole,
-      reads .sequence 0,
-    )
+    let reads = output-reads-back from to text never in
+    (accepted-where to (output from to text) (reads .never 0) (reads .whole), reads .whole, reads .sequence 0)
 
 -- ---- there and back
 
