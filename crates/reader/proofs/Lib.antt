@@ -1,3 +1,1 @@
 pub mod BytesOfAreas
-pub mod OpeningBytes
-pub mod MatchGoesOn

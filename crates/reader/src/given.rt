@@ -1,5 +1,4 @@
 // What a byte gives: each of these builds the answer and the next reader at once.
-use crate::search;
 use paper::Answer;
 use paper::Answered;
 use paper::Element;
@@ -9,27 +8,11 @@ use paper::Sets;
 use paper::Shift;
 use paper::Standing;
 use paper::Within;
+use standing::standing_at;
 ghost use mathlib.Core.Path.{_≡_};
-ghost use Rattle.paper.specs.Characters.{standingAt, says, waits, refuses};
+ghost use Rattle.paper.specs.Characters.{says, waits, refuses};
 ghost use Rattle.paper.specs.Answering.{withSets};
 ghost use Rattle.reader.specs.Shown.{shows, takesOne};
-
-// The reader standing elsewhere.
-pub(crate) fn standing_at(standing: Standing, reader: Reader) -> Reader
-    ensures { λ r. ⌜ r ≡ standingAt standing reader ⌝ }
-{
-    let form = reader.form;
-    let sets = reader.sets;
-    let gl = reader.gl;
-    let gr = reader.gr;
-    Reader {
-        form: form,
-        sets: sets,
-        gl: gl,
-        gr: gr,
-        standing: standing,
-    }
-}
 
 // A complete answer leaves the reader on the ground.
 pub(crate) fn say(answer: Answer, reader: Reader) -> Answered

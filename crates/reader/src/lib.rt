@@ -1,8 +1,7 @@
 // The reader: one byte in, one answer and the reader for the next byte out. Every reader value has its answer, also one that
-// no text leads to.
+// no text leads to. Who reads a text begins and ends it here too: `start` and `end_word` are handed on.
 mod character;
 mod given;
-mod search;
 mod sequence;
 
 use codetable::LAST_OF_C0;
@@ -10,31 +9,15 @@ use codetable::LAST_OF_C1;
 use codetable::LAST_OF_GL;
 use given::refuse;
 use paper::Answered;
-use paper::Element;
-use paper::EndWord;
-use paper::Form;
 use paper::Reader;
 use paper::Refusal;
 use paper::Standing;
 use paper::Within;
+pub use standing::end_word;
+pub use standing::start;
 ghost use mathlib.Core.Path.{_≡_};
-ghost use Rattle.paper.specs.Starting.{started};
-ghost use Rattle.paper.specs.Answering.{groundAt, answerWithin, answerInStep, answerTo, endWithin, endOfText};
+ghost use Rattle.paper.specs.Answering.{groundAt, answerWithin, answerInStep, answerTo};
 ghost use Rattle.paper.specs.CodeTable.{areaOf};
-
-// A reader at the start of a text.
-pub fn start(form: Form) -> Reader
-    ensures { λ r. ⌜ r ≡ started form ⌝ }
-{
-    let sets = charsets::starting_sets();
-    Reader {
-        form: form,
-        sets: sets,
-        gl: Element::G0,
-        gr: Element::G1,
-        standing: Standing::InStep(Within::Ground),
-    }
-}
 
 // The answer to one byte, and the reader for the next.
 pub fn read(reader: Reader, byte: u8) -> Answered
@@ -44,28 +27,6 @@ pub fn read(reader: Reader, byte: u8) -> Answered
     match standing {
         Standing::InStep(within) => answer_in_step(within, byte, reader),
         Standing::Lost { matched, skipped } => search::answer_lost(matched, skipped, byte, reader),
-    }
-}
-
-// Whether a text that ends here is whole, ends inside, or is lost.
-pub fn end_word(reader: Reader) -> EndWord
-    ensures { λ r. ⌜ r ≡ endOfText reader ⌝ }
-{
-    let standing = reader.standing;
-    match standing {
-        Standing::InStep(within) => end_within(within),
-        Standing::Lost { .. } => EndWord::Lost,
-    }
-}
-
-fn end_within(within: Within) -> EndWord
-    ensures { λ r. ⌜ r ≡ endWithin within ⌝ }
-{
-    match within {
-        Within::Ground => EndWord::Whole,
-        Within::Sequence(_) => EndWord::Inside,
-        Within::SingleShift(_) => EndWord::Inside,
-        Within::Character(_, _, _) => EndWord::Inside,
     }
 }
 

@@ -1,0 +1,2 @@
+pub mod OpeningBytes
+pub mod MatchGoesOn
