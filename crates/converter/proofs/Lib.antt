@@ -1,0 +1,11 @@
+pub mod AheadIsSilent
+pub mod BytesInANumber
+pub mod ConvertedByTwoPasses
+pub mod LaneCopies
+pub mod OverTheBuffer
+pub mod PassByTurns
+pub mod PassEnds
+pub mod PassGoesOn
+pub mod RunsOfTheLane
+pub mod TurnsOfAnswers
+pub mod TurnsTellAnswers

@@ -1,0 +1,46 @@
+-- The four ways that `ConvertedByTwoPasses` tells apart.
+use mathlib.Core.Path.{_≡_, sym, _∙_}
+use borrow.Author.Needs.{needs}
+use Rattle.converter.specs.Passes.{otherThan}
+use Rattle.converter.proofs.ConvertedByTwoPasses.{too-long, refused-at, no-room, written}
+use Rattle.converter.proofs.converted.Statement.{statement}
+use Rattle.converter.proofs.converted.Tie as tie
+
+returns : tie.Need-returns
+returns c =
+    let s = c .before .before .before .args in
+    too-long (otherThan (s .to)) (s .to) (s .text .now) (s .buffer .now) (c .if1 .taken)
+
+returns-2 : tie.Need-returns-2
+returns-2 c =
+    let s = c .before .before .before .before .before .before .before .before .before .args in
+    refused-at (otherThan (s .to)) (s .to) (s .text .now) (s .buffer .now) (c .before .before .before .before .before .before .if1 .left) _ _
+    (sym (c .before .refusal .given .1) ∙ c .before .before .before .before .pass .ensures .0)
+
+returns-3 : tie.Need-returns-3
+returns-3 c =
+    let s = c .before .before .before .before .before .before .before .before .before .before .before .before .before .before .args in
+    written (otherThan (s .to)) (s .to) (s .text .now) (s .buffer .now) (c .before .before .before .before .before .before .before .before .before .before .before .if1 .left) _
+    (sym (c .before .before .before .before .before .before .length .given .1) ∙ c .before .before .before .before .before .before .before .before .before .pass .ensures .0) (c .before .before .before .before .if2 .taken) _ _
+    (c .before .before .pass2 .ensures .0) (c .before .before .pass2 .ensures .1)
+
+returns-4 : tie.Need-returns-4
+returns-4 c =
+    let s = c .before .before .before .before .before .before .before .before .before .before .args in
+    no-room (otherThan (s .to)) (s .to) (s .text .now) (s .buffer .now) (c .before .before .before .before .before .before .before .if1 .left) _
+    (sym (c .before .before .length .given .1) ∙ c .before .before .before .before .before .pass .ensures .0) (c .if2 .left)
+
+pub converted-spec : {M : Type 1} → statement M
+converted-spec =
+    tie.close
+    (tie.spec
+    returns
+    (λ c. search needs)
+    (λ c κs. search needs)
+    (λ c. search needs)
+    (λ c. search needs)
+    (λ c κs. search needs)
+    returns-2
+    (λ c. search needs)
+    returns-3
+    returns-4)

@@ -1,0 +1,113 @@
+// A piece of output: what is written for one answer, at most five bytes. They stand in one number, the first in its lowest place, so
+// that a piece is handed over in two registers.
+ghost use Prim.Native.Nat.{_+_, _*_, _≤_, _<_};
+ghost use mathlib.Core.Path.{_≡_};
+ghost use mathlib.Core.List.{_∷_, []};
+ghost use lib.ListN.{length};
+ghost use lib.Seq.{sets};
+ghost use Rattle.paper.specs.Refusals.{longestText};
+ghost use Rattle.converter.specs.Pieces.{bytesIn};
+
+// The second, third, fourth and fifth place of the number.
+const SECOND: u64 = 0x100;
+
+const THIRD: u64 = 0x10000;
+
+const FOURTH: u64 = 0x1000000;
+
+const FIFTH: u64 = 0x100000000;
+
+pub(crate) struct Piece {
+    pub(crate) count: usize,
+    pub(crate) bytes: u64,
+}
+
+pub(crate) fn nothing() -> Piece
+    ensures { λ r. ⌜ bytesIn r ≡ [] ⌝ }
+{
+    Piece { count: 0, bytes: 0 }
+}
+
+pub(crate) fn one(first: u8) -> Piece
+    ensures { λ r. ⌜ (bytesIn r ≡ first ∷ []) × (r .count ≡ 1) × (r .bytes < 0x100) ⌝ }
+{
+    Piece {
+        count: 1,
+        bytes: first as u64,
+    }
+}
+
+// A byte in front of a piece.
+pub(crate) fn in_front(byte: u8, piece: Piece) -> Piece
+    requires { ⌜ (piece .count ≤ 4) × (piece .bytes < 0x100000000) ⌝ }
+    ensures { λ r. ⌜
+        (bytesIn r ≡ byte ∷ bytesIn piece) ×
+        (r .count ≡ piece .count + 1) ×
+        (r .bytes ≡ piece .bytes * 0x100 + byte)
+        ⌝ }
+{
+    Piece {
+        count: piece.count + 1,
+        bytes: piece.bytes * SECOND + byte as u64,
+    }
+}
+
+pub(crate) fn two(first: u8, second: u8) -> Piece
+    ensures { λ r. ⌜ (bytesIn r ≡ first ∷ second ∷ []) × (r .count ≡ 2) × (r .bytes < 0x10000) ⌝ }
+{
+    in_front(first, one(second))
+}
+
+pub(crate) fn three(first: u8, second: u8, third: u8) -> Piece
+    ensures { λ r. ⌜ (bytesIn r ≡ first ∷ second ∷ third ∷ []) × (r .count ≡ 3) × (r .bytes < 0x1000000) ⌝ }
+{
+    in_front(first, two(second, third))
+}
+
+pub(crate) fn four(first: u8, second: u8, third: u8, fourth: u8) -> Piece
+    ensures { λ r. ⌜ bytesIn r ≡ first ∷ second ∷ third ∷ fourth ∷ [] ⌝ }
+{
+    in_front(first, three(second, third, fourth))
+}
+
+// Writes a piece from a place of the buffer on.
+fn put(buffer: &mut [u8], at: usize, piece: Piece)
+    requires { ⌜ (at + piece .count ≤ length (now buffer)) × (piece .count ≤ 5) ⌝ }
+    ensures { λ _. ⌜ now (buffer .exit) ≡ sets (now (buffer .entry)) at (bytesIn piece) ⌝ }
+{
+    let count = piece.count;
+    let bytes = piece.bytes;
+    if count < 1 {
+        return;
+    }
+    buffer[at] = (bytes % 0x100) as u8;
+    if count < 2 {
+        return;
+    }
+    buffer[at + 1] = (bytes / SECOND % 0x100) as u8;
+    if count < 3 {
+        return;
+    }
+    buffer[at + 2] = (bytes / THIRD % 0x100) as u8;
+    if count < 4 {
+        return;
+    }
+    buffer[at + 3] = (bytes / FOURTH % 0x100) as u8;
+    if count < 5 {
+        return;
+    }
+    buffer[at + 4] = (bytes / FIFTH % 0x100) as u8;
+}
+
+// Writes a piece where there is room for it.
+pub(crate) fn put_if_room(buffer: &mut [u8], at: usize, piece: Piece)
+    requires { ⌜ (at ≤ 3 * longestText) × (piece .count ≤ 5) ⌝ }
+    ensures { λ _. ⌜
+        (at + piece .count ≤ length (now (buffer .entry)) →
+        now (buffer .exit) ≡ sets (now (buffer .entry)) at (bytesIn piece))
+        ⌝ }
+{
+    if at + piece.count <= buffer.len() {
+        put(buffer, at, piece);
+    }
+}
