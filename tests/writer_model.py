@@ -29,6 +29,19 @@ Done = namedtuple('Done', 'length')
 
 # --- The sequence of a text
 
+def answers_and_states(form, text):
+    """The answer to each byte and the state after it. As long as the state stays what it is, a byte is answered
+    from what was answered to its like: the longest texts stay in one state for long."""
+    state, known = reader_model.start(form), {}
+    for byte in text:
+        if byte not in known:
+            known[byte] = reader_model.feed(state, byte)
+        answer, after = known[byte]
+        if after != state:
+            state, known = after, {}
+        yield answer, state
+
+
 def sequence(form, text):
     """'The two written forms': the answers without shifts and nothing yet, up to the first refusal.
 
@@ -36,8 +49,7 @@ def sequence(form, text):
     so it comes after 1 to 6; a text that comes back in step is refused all the same.
     """
     state, items = reader_model.start(form), []
-    for place, byte in enumerate(text):
-        answer, state = reader_model.feed(state, byte)
+    for place, (answer, state) in enumerate(answers_and_states(form, text)):
         if answer.word == 'refused':
             return items, Refusal(answer.fields[0], place)
         if answer.word not in ('shift', 'nothing yet'):
@@ -203,11 +215,9 @@ SHIFTS_WRITTEN = {7: ('LS0', 'LS1', 'SS2', 'SS3'), 8: ('SS2', 'SS3')}
 def fault_of(form, items, output):
     """What is wrong with the output of an accepted text, None if nothing is: read in its own form it must give
     the same sequence, with no other shifts than those its writer may write."""
-    answers, word = reader_model.read(form, output)
-    if word != 'whole':
-        return 'the output ends %s' % word
-    if [answer for answer in answers if answer.word not in ('shift', 'nothing yet')] != items:
+    if sequence(form, output) != (items, None):
         return 'the output has another sequence'
-    if any(answer.word == 'shift' and answer.fields[0] not in SHIFTS_WRITTEN[form] for answer in answers):
+    shifts = {answer.fields[0] for answer, _ in answers_and_states(form, output) if answer.word == 'shift'}
+    if not shifts.issubset(SHIFTS_WRITTEN[form]):
         return 'the output has a shift that is not written in this form'
     return None
