@@ -215,9 +215,13 @@ SHIFTS_WRITTEN = {7: ('LS0', 'LS1', 'SS2', 'SS3'), 8: ('SS2', 'SS3')}
 def fault_of(form, items, output):
     """What is wrong with the output of an accepted text, None if nothing is: read in its own form it must give
     the same sequence, with no other shifts than those its writer may write."""
-    if sequence(form, output) != (items, None):
+    state, answers = reader_model.start(form), []
+    for answer, state in answers_and_states(form, output):
+        answers.append(answer)
+    if reader_model.end_word(state) != 'whole':
+        return 'the output ends %s' % reader_model.end_word(state)
+    if [answer for answer in answers if answer.word not in ('shift', 'nothing yet')] != items:
         return 'the output has another sequence'
-    shifts = {answer.fields[0] for answer, _ in answers_and_states(form, output) if answer.word == 'shift'}
-    if not shifts.issubset(SHIFTS_WRITTEN[form]):
+    if any(answer.word == 'shift' and answer.fields[0] not in SHIFTS_WRITTEN[form] for answer in answers):
         return 'the output has a shift that is not written in this form'
     return None
