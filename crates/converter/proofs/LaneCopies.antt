@@ -146,15 +146,15 @@ module _ (gl : Element) (t : Sets) (left right : Element) where
   unfolding copied
   in-lane to b c =
       let P : ℕ → Type 0 = λ n. n ≡ suc c → Copies to gl (here to) b (suc c) in
-      gives-by P (ltb space b)
-      (λ above. gives-by P (ltb b delete)
-      (λ below. from-gl to b c (ltb-true space b above) (ltb-true b delete below))
-      (λ no. gives-by P (ltb (bit8 + space) b)
+      gives-by P (ltb (bit8 + space) b)
       (λ high. gives-by P (ltb b (bit8 + delete))
       (λ below. from-gr to b c (ltb-true (bit8 + space) b high) (ltb-true b (bit8 + delete) below))
       (λ no e. impossible (cc)))
-      (λ no e. impossible (cc))))
-      (λ no e. impossible (cc))
+      (λ no. gives-by P (ltb space b)
+      (λ above. gives-by P (ltb b delete)
+      (λ below. from-gl to b c (ltb-true space b above) (ltb-true b delete below))
+      (λ no e. impossible (cc)))
+      (λ no e. impossible (cc)))
 
 -- ---- a reader on the ground
 

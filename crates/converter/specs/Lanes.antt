@@ -55,12 +55,13 @@ copiedFromGR Copy.Low p = p
 copiedFromGR Copy.High p = 0
 copiedFromGR Copy.Not p = 0
 
--- 2/1 to 7/14, and 10/1 to 15/14
+-- 10/1 to 15/14, and 2/1 to 7/14
 unfoldable pub copied : Lane → ℕ → ℕ
 copied lane b =
+    ltb (bit8 + space) b gives
+    (ltb b (bit8 + delete) gives copiedFromGR (lane .right) (b % bit8) or 0) or
     ltb space b gives
-    (ltb b delete gives copiedFromGL (lane .left) b or
-    (ltb (bit8 + space) b gives (ltb b (bit8 + delete) gives copiedFromGR (lane .right) (b % bit8) or 0) or 0)) or
+    (ltb b delete gives copiedFromGL (lane .left) b or 0) or
     0
 
 unfoldable pub nextCopied : Lane → List ℕ → ℕ → ℕ

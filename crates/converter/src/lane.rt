@@ -128,17 +128,17 @@ fn copied(lane: Lane, byte: u8) -> u8
 {
     let left = lane.left;
     let right = lane.right;
+    if BIT_8 + SPACE < byte {
+        if byte < BIT_8 + DELETE {
+            return from_gr(right, byte % BIT_8);
+        }
+        return 0;
+    }
     if byte <= SPACE {
         return 0;
     }
     if byte < DELETE {
         return from_gl(left, byte);
-    }
-    if byte <= BIT_8 + SPACE {
-        return 0;
-    }
-    if byte < BIT_8 + DELETE {
-        return from_gr(right, byte % BIT_8);
     }
     0
 }

@@ -10,12 +10,12 @@ unfolding copied
 copied-spec =
     tie.close
     (tie.spec
-    (λ c. search tests)
-    (λ c κs. search needs)
-    (λ c. search (tests, c .from-gl .ensures))
     (λ c. search needs)
-    (λ c. search tests)
     (λ c. search needs)
     (λ c κs. search needs)
     (λ c. search (tests, c .from-gr .ensures))
+    (λ c. search tests)
+    (λ c. search tests)
+    (λ c κs. search needs)
+    (λ c. search (tests, c .from-gl .ensures))
     (λ c. search tests))
