@@ -29,10 +29,8 @@ ghost use mathlib.Core.Bool.{true};
 // A text may have 65,536 bytes; one byte more shows that it is longer.
 const ROOM: usize = LONGEST_TEXT + 1;
 
-// No 7-bit form is longer than three bytes for each byte of the text, and no 8-bit form than two.
-const LONGEST_SEVEN: usize = 3 * LONGEST_TEXT;
-
-const LONGEST_EIGHT: usize = 2 * LONGEST_TEXT;
+// No output is longer than three bytes for each byte of the text.
+const LONGEST_OUTPUT: usize = 3 * LONGEST_TEXT;
 
 // A line of numbers has four digits or the word none, and its end. No byte of a text makes more than one line.
 const LINE: usize = 5;
@@ -264,7 +262,7 @@ fn print_back(text: &[u8], back: &[u8]) {
 }
 
 fn compare_back(text: &[u8], seven: &[u8]) {
-    let mut room = [0u8; LONGEST_EIGHT];
+    let mut room = [0u8; LONGEST_OUTPUT];
     let eight: &mut [u8] = &mut room;
     print_figure(b"text ", text.len());
     print_figure(b"seven ", seven.len());
@@ -371,7 +369,7 @@ fn print_numbers(text: &[u8]) {
 
 // The way there refuses what the reading refuses, and a text that is too long: the numbers have no refusals of their own.
 fn go_there(text: &[u8], comparing: bool) {
-    let mut room = [0u8; LONGEST_SEVEN];
+    let mut room = [0u8; LONGEST_OUTPUT];
     let seven: &mut [u8] = &mut room;
     match converter::to_seven(text, seven) {
         Converted::Done(length) => {
