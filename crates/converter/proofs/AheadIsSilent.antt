@@ -19,7 +19,7 @@ use Rattle.paper.specs.declared.Standing.{Standing}
 use Rattle.paper.specs.declared.Reader.{Reader}
 use Rattle.paper.specs.declared.Answer.{Answer}
 use Rattle.paper.proofs.Choices.{gives-by}
-use Rattle.paper.proofs.BytesThatAreWritten.{form-has-area, both-have-c0, both-have-gl, intermediate-area}
+use Rattle.paper.proofs.WrittenBytes.{form-has-area, both-have-c0, both-have-gl, intermediate-area}
 use Rattle.paper.proofs.ReadingOn.{in-form, on-ground}
 use Rattle.converter.specs.declared.ahead.Ahead.{Ahead}
 use Rattle.converter.specs.AheadOfFinals.{passed, afterEscape, aheadOf}

@@ -31,7 +31,7 @@ use Rattle.paper.specs.declared.Refusal.{Refusal}
 use Rattle.paper.specs.declared.Answer.{Answer}
 use Rattle.paper.proofs.Choices.{impossible, gives-by}
 use Rattle.paper.proofs.ReadingOn.{readerWith}
-use Rattle.paper.proofs.CharactersReadBack.{begins-in-gl, begins-in-gr}
+use Rattle.paper.proofs.WrittenCharactersReadBack.{begins-in-gl, begins-in-gr}
 use Rattle.converter.specs.declared.lane.Copy.{Copy}
 use Rattle.converter.specs.Lanes.{ifOne, copyInSeven, copyInEight, laneOf, copiedFromGL, copiedFromGR, copied}
 use Rattle.converter.specs.Passes.{otherThan, isGround, onGround}

@@ -1,3 +1,4 @@
+-- No rule of the paper: for the contracts of private functions.
 -- From ESC on the ground ahead to the byte that may end the sequence: where a reader stands then, and at which place.
 use Prim.Native.Nat.{ℕ, _+_}
 use mathlib.Core.List.{List}

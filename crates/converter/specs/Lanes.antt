@@ -1,3 +1,4 @@
+-- No rule of the paper: for the contracts of private functions.
 -- The lane: which bytes on the ground are characters that are written in one byte, and as which.
 use Prim.Native.Nat.{ℕ, _+_, _%_}
 use mathlib.Core.List.{List}

@@ -1,3 +1,4 @@
+-- No rule of the paper: for the contracts of private functions.
 -- What a pass over a text answers: the first of 1 to 7, or the length of the output.
 use Prim.Native.Nat.{ℕ}
 use mathlib.Core.Bool.{Bool, true, false}

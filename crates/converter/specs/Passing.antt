@@ -1,3 +1,4 @@
+-- No rule of the paper: for the contracts of private functions.
 -- At a place of a pass: what is left to read gives the rest of the output and the refusal of the whole text; what was written so far
 -- stands at the beginning of the buffer, where that has room for the whole output.
 use Prim.Native.Nat.{ℕ, _≤_}

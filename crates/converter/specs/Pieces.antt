@@ -1,3 +1,4 @@
+-- No rule of the paper: for the contracts of private functions.
 -- The bytes that stand in a number, the first in its lowest place.
 use Prim.Native.Nat.{ℕ, zero, suc, _/_, _%_}
 use mathlib.Core.List.{List, [], _∷_}

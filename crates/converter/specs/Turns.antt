@@ -1,3 +1,4 @@
+-- No rule of the paper: for the contracts of private functions.
 -- What a writer does with an answer, by the paper's definitions: bytes, and what GL shows then; or the refusal.
 use Prim.Native.Nat.{ℕ}
 use mathlib.Core.List.{List, [], _∷_, _++_}

@@ -117,6 +117,7 @@ fn pass(to: Form, text: &[u8], buffer: &mut [u8]) -> Converted
     match reader::end_word(reader) {
         EndWord::Whole => Converted::Done(at),
         EndWord::Inside => Converted::Refused(Refusal::EndsInside, place),
+        // never here, since a refusal has returned before
         EndWord::Lost => Converted::Done(at),
     }
 }

@@ -70,6 +70,15 @@ conversionExamples =
       returned = 0 ∷ 0 ∷ 5 ∷ [];
       buffer = 0x41 ∷ 0x0E ∷ 0x41 ∷ 0x0F ∷ 0x20 ∷ [];
     } ∷
+    -- SPACE and DELETE after a G1 character of 94 type get no SI; a control and other stand in their place
+    record {
+      from = Eight;
+      to = Seven;
+      bytes = 0x1B ∷ 0x29 ∷ 0x42 ∷ 0xC1 ∷ 0x20 ∷ 0x0A ∷ 0x1B ∷ 0x23 ∷ 0x30 ∷ 0x7F ∷ [];
+      room = 11;
+      returned = 0 ∷ 0 ∷ 11 ∷ [];
+      buffer = 0x1B ∷ 0x29 ∷ 0x42 ∷ 0x0E ∷ 0x41 ∷ 0x20 ∷ 0x0A ∷ 0x1B ∷ 0x23 ∷ 0x30 ∷ 0x7F ∷ [];
+    } ∷
     -- the long sequence read, the short one written with F 4/2, and the long one with F 4/3
     record {
       from = Eight;

@@ -12,7 +12,7 @@ use Rattle.paper.specs.Texts.{readerAfter, answersFrom}
 use Rattle.paper.specs.Surveying.{firstRefusal, refusalOr}
 use Rattle.paper.specs.WrittenForms.{leftOut, sequenceIn}
 use Rattle.paper.proofs.MadeAndTakenApart.{hasArea}
-use Rattle.paper.proofs.BytesThatAreWritten.{form-has-area}
+use Rattle.paper.proofs.WrittenBytes.{form-has-area}
 
 -- read from here, the bytes refuse nothing, end whole and have this sequence
 pub record ReadsAs (r : Reader) (bytes : List ℕ) (l : List Answer) : Type 0 where

@@ -17,9 +17,9 @@ use Rattle.paper.specs.Surveying.{firstRefusal, firstOf}
 use Rattle.paper.specs.WrittenForms.{sequenceOf, writerAtStart}
 use Rattle.paper.specs.Conversions.{refusalAtEnd, Accepted, output, intoRoom, conversion, refusalIn}
 use Rattle.paper.proofs.Choices.{impossible, gives-has}
-use Rattle.paper.proofs.AnswersThatCanBeWritten.{can-be-written}
+use Rattle.paper.proofs.WhatIsReadCanBeWritten.{can-be-written}
 use Rattle.paper.proofs.ReadingOn.{ReadsAs}
-use Rattle.paper.proofs.AnswersReadBack.{readerOf, sequence-reads-back}
+use Rattle.paper.proofs.WrittenAnswersReadBack.{readerOf, sequence-reads-back}
 
 first-never : (x y : FirstRefusal) → firstOf x y ≡ Never → x ≡ Never
 first-never Never y e = refl

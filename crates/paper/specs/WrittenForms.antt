@@ -49,7 +49,8 @@ designationBytes e x = sequenceBytes (intermediatesOf (x .count) (x .kind) e (x 
 
 -- ---- what is not
 
--- 7-bit: a C1 function is ESC Fe. 8-bit: a C1 function is its byte
+-- 7-bit: a C1 function is ESC Fe. 8-bit: a C1 function is its byte. The remainder makes a byte of any number; a reader's numbers are
+-- 0 to 31
 abbrev pub functionBytes : Form → ℕ → List ℕ
 functionBytes Seven n = esc ∷ (finalOfFunction + n % controlSize) ∷ []
 functionBytes Eight n = (bit8 + n % controlSize) ∷ []
@@ -69,7 +70,7 @@ areaFor Eight G1 = GraphicArea.GR
 areaFor Eight G2 = GraphicArea.GL
 areaFor Eight G3 = GraphicArea.GL
 
--- a position byte as a byte of the area
+-- a position byte as a byte of the area; the remainder as above
 abbrev pub byteFrom : GraphicArea → ℕ → ℕ
 byteFrom GraphicArea.GL p = p
 byteFrom GraphicArea.GR p = bit8 + p % bit8
@@ -120,7 +121,7 @@ glWith none gl = gl
 glWith shiftIn gl = G0
 glWith shiftOut gl = G1
 
--- 7-bit: G0 and G1 characters get SI or SO first if GL shows another element
+-- 7-bit: G0 and G1 characters get SI or SO first if GL shows another element; the character's element, and GL's
 abbrev pub beforeCharacter : Element → Element → Locking
 beforeCharacter G0 G0 = none
 beforeCharacter G0 G1 = shiftIn

@@ -17,11 +17,11 @@ use Rattle.paper.specs.WrittenForms.{Locking, lockingBytes, glWith, befo
 use Rattle.paper.specs.WrittenForms.{setsWith, writerAfter, writtenFrom}
 use Rattle.paper.proofs.Choices.{impossible}
 use Rattle.paper.proofs.WhatCanBeWritten.{AllOfSet, MayHave, CanBeWritten, AllCanBeWritten}
-use Rattle.paper.proofs.BytesThatAreWritten.{both-have-gl, final-is, function-low}
+use Rattle.paper.proofs.WrittenBytes.{both-have-gl, final-is, function-low}
 use Rattle.paper.proofs.WrittenDesignations.{intermediate-of-controls, designation-leads, designation-means, controls-mean}
 use Rattle.paper.proofs.ReadingOn.{ReadsAs, reads-on, readerWith}
-use Rattle.paper.proofs.CharactersReadBack.{begins-in-gl, begins-in-gr, begins-shifted, reads-character}
-use Rattle.paper.proofs.SequencesReadBack.{reads-sequence, reads-c0, reads-space, reads-delete, reads-locking, reads-function}
+use Rattle.paper.proofs.WrittenCharactersReadBack.{begins-in-gl, begins-in-gr, begins-shifted, reads-character}
+use Rattle.paper.proofs.WrittenSequencesReadBack.{reads-sequence, reads-c0, reads-space, reads-delete, reads-locking, reads-function}
 
 -- ---- what GL shows where an answer's bytes are written
 

@@ -17,8 +17,8 @@ use Rattle.paper.specs.Results.{controlSize}
 use Rattle.paper.specs.WrittenForms.{leftOut, sequenceBytes, functionBytes, Locking, none, shiftIn, shiftOut, lockingBytes, glWith}
 use Rattle.paper.proofs.MadeAndTakenApart.{hasArea}
 use Rattle.paper.proofs.WhatCanBeWritten.{AllIntermediate, ControlOfC0}
-use Rattle.paper.proofs.BytesThatAreWritten.{form-has-area, both-have-c0, both-have-gl, intermediate-area, final-area, area-of-c1}
-use Rattle.paper.proofs.BytesThatAreWritten.{function-final, function-meaning}
+use Rattle.paper.proofs.WrittenBytes.{form-has-area, both-have-c0, both-have-gl, intermediate-area, final-area, area-of-c1}
+use Rattle.paper.proofs.WrittenBytes.{function-final, function-meaning}
 use Rattle.paper.proofs.ReadingOn.{ReadsAs, NoRefusal, reads-on, readerWith, in-form, on-ground}
 
 module _ (m : Form) (t : Sets) (gl gr : Element) where

@@ -14,7 +14,7 @@ use Rattle.paper.specs.Results.{positionValues}
 use Rattle.paper.specs.WrittenForms.{byteFrom}
 use Rattle.paper.proofs.MadeAndTakenApart.{hasArea}
 use Rattle.paper.proofs.WhatCanBeWritten.{AllOfSet}
-use Rattle.paper.proofs.BytesThatAreWritten.{form-has-area, both-have-gl, areaIn, byte-of}
+use Rattle.paper.proofs.WrittenBytes.{form-has-area, both-have-gl, areaIn, byte-of}
 use Rattle.paper.proofs.ReadingOn.{ReadsAs, reads-on, readerWith, in-form, on-ground}
 
 -- ---- a whole character, or not yet
