@@ -30,7 +30,8 @@ module _ (from to : Form) (text lent : List ℕ) where
   Answers answer buffer = (answer ≡ conversion from to text (length lent)) × (buffer ≡ bufferAfter from to text lent)
 
   -- a refusal leaves the buffer
-  refused-so : (r : Refusal) (at : ℕ) → Converted.Refused r at ≡ conversion from to text (length lent) → Answers (Converted.Refused r at) lent
+  refused-so : (r : Refusal) (at : ℕ) → Converted.Refused r at ≡ conversion from to text (length lent) →
+      Answers (Converted.Refused r at) lent
   refused-so r at e = (e, ap (λ (a : Converted). over (wroteBy a (output from to text)) lent) e)
 
   pub too-long : longestText < length text → Answers (Converted.Refused Refusal.TooLong 0) lent

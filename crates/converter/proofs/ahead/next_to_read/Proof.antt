@@ -6,7 +6,13 @@ use Rattle.converter.proofs.ahead.next_to_read.Tie as tie
 
 returns : tie.Need-returns
 unfolding nextToRead
-returns c = simp (← c .before .before .before .on-ground .ensures, c .before .before .if1 .taken, c .standing-at .ensures, c .before .look-ahead .ensures)
+returns c =
+    simp (
+      ← c .before .before .before .on-ground .ensures,
+      c .before .before .if1 .taken,
+      c .standing-at .ensures,
+      c .before .look-ahead .ensures,
+    )
 
 returns-2 : tie.Need-returns-2
 unfolding nextToRead

@@ -1,5 +1,5 @@
 -- The loop keeps `Running`.
-use Prim.Native.Nat.{ℕ, _-_}
+use Prim.Native.Nat.{ℕ, _-_, _<_}
 use mathlib.Core.Path.{_≡_, subst}
 use native.Mathlib.Omega.{arith}
 use borrow.Author.Needs.{needs}
@@ -19,38 +19,42 @@ abbrev μ-loop : tie.MeasureT-loop
 loop-holds : tie.Need-loop-holds Inv-loop μ-loop
 loop-holds c = running-starts _ _ _ _ _ _ (c .before .before .before .before .pre .0) (c .next-copied .ensures)
 
+-- the call that a turn of the loop belongs to
+abbrev called : tie.In-loop Inv-loop μ-loop → tie.Start Inv-loop μ-loop
+called c = c .before .before .before .before .before .before
+
+-- a turn keeps within the text
+inside : (c : tie.In-loop Inv-loop μ-loop) → c .before .loop .here < length (called c .args .text .now)
+inside c = still-inside (c .before .loop .inv) (c .loop-test .taken)
+
 add-here : tie.Need-add-here Inv-loop μ-loop
-add-here c =
-    omega (arith, still-inside (c .before .before .before .before .before .loop .inv) (c .before .before .before .before .loop-test .taken), c .before .before .before .before .before .before .before .before .before .before .pre)
+add-here c = let t = c .before .before .before .before in omega (arith, inside t, called t .pre)
 
 add-there : tie.Need-add-there Inv-loop μ-loop
-add-there c =
-    omega (
-      arith,
-      still-inside (c .before .before .before .before .before .loop .inv) (c .before .before .before .before .loop-test .taken),
-      c .before .before .before .before .before .loop .inv .so-many,
-      c .before .before .before .before .before .before .before .before .before .before .pre,
-    )
+add-there c = let t = c .before .before .before .before in omega (arith, inside t, t .before .loop .inv .so-many, called t .pre)
 
 loop-less : tie.Need-loop-less Inv-loop μ-loop
-loop-less c = omega (arith, still-inside (c .before .before .before .before .before .before .loop .inv) (c .before .before .before .before .before .loop-test .taken))
+loop-less c = omega (arith, inside (c .before .before .before .before .before))
 
 loop-again : tie.Need-loop-again Inv-loop μ-loop
 loop-again c =
-    running-goes-on (c .before .before .before .before .before .before .loop .inv) (c .before .before .before .before .before .loop-test .taken) _ _
-    (c .before .before .before .put-byte .ensures) (c .before .before .before .put-byte .kept .0) (c .next-copied2 .ensures)
+    let t = c .before .before .before .before .before in
+    let put = c .before .before .before .put-byte in
+    running-goes-on (t .before .loop .inv) (t .loop-test .taken) _ _ (put .ensures) (put .kept .0) (c .next-copied2 .ensures)
 
 same-length : tie.Need-same-length Inv-loop μ-loop
 same-length c = c .before .loop .inv .as-long
 
 returns : tie.Need-returns Inv-loop μ-loop
 returns c =
-    let run = c .before .loop .inv in
-    let s = c .before .before .before .before .before .before .args in (
-      (run .from, run .within),
+    let l = c .before .loop in
+    let start = c .before .before .before .before .before .before in
+    let s = start .args in
+    let here = l .inv .passing (s .to) (s .gl) (s .reader) in (
+      (l .inv .from, l .inv .within),
       λ lent p.
-          subst (λ (n : ℕ). Passing (s .to) (s .text .now) lent (s .reader) (s .gl) n (c .before .loop .here) (c .before .loop .buffer)) (run .so-many)
-          (run .passing (s .to) (s .gl) (s .reader) lent (c .before .before .before .lane-of .ensures) (c .before .before .before .before .before .before .pre .3) p),
+          subst (λ (n : ℕ). Passing (s .to) (s .text .now) lent (s .reader) (s .gl) n (l .here) (l .buffer)) (l .inv .so-many)
+          (here lent (c .before .before .before .lane-of .ensures) (start .pre .3) p),
     )
 
 pub copy-lane-spec : {M : Type 1} → statement M
