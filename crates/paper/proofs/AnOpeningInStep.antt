@@ -2,10 +2,12 @@
 -- or shifts, so that sets, GL and GR are those of the start; in 7-bit form no shift reaches GR, which must show G1 before.
 -- Inside a sequence, after a single shift and inside a character its first byte is refused, and the search that begins with this
 -- byte finds it.
+use Prim.Native.Nat.{ℕ}
 use mathlib.Core.Path.{_≡_, refl, ap, _∙_}
+use lib.ListN.{drop}
 use Rattle.paper.specs.Choice.{between}
 use Rattle.paper.specs.Words.{Form, Seven, Eight, Element, G1, Sets, GraphicArea, Within, Standing, Reader}
-use Rattle.paper.specs.CodeTable.{columnArea, formHasColumn, positionOf}
+use Rattle.paper.specs.CodeTable.{columnArea, formHasColumn, positionOf, esc}
 use Rattle.paper.specs.Sets.{setByte}
 use Rattle.paper.specs.Starting.{started, opening}
 use Rattle.paper.specs.Sequences.{sequenceByte, c1Function, shiftOrOther, meaningOfNone, designation}
@@ -23,19 +25,34 @@ abbrev shownInGR : Form → Element → Element
 shownInGR Seven e = G1
 shownInGR Eight e = e
 
+-- after a single shift and inside a character its first byte is refused; the rest is searched for, however many bytes are counted
+module _ (t : Sets) (l g : Element) where
+  abbrev lostAtFirst : Form → ℕ → Reader
+  lostAtFirst m n = record { form = m; sets = t; gl = l; gr = g; standing = Standing.Lost 1 n }
+
+  rest-found : (m : Form) (n : ℕ) → readerAfter (lostAtFirst m n) (drop 1 (opening m)) ≡ started m
+  unfolding matchedWith oneMore answerLost answerTo
+  rest-found Seven n = refl
+  rest-found Eight n = refl
+
+  finds : (m : Form) (w : Within) {n : ℕ} → answerTo (reading m t l g w) esc .reader ≡ lostAtFirst m n →
+      readerAfter (reading m t l g w) (opening m) ≡ started m
+  finds Seven w {n} e = ap (λ (r : Reader). readerAfter r (drop 1 (opening Seven))) e ∙ rest-found Seven n
+  finds Eight w {n} e = ap (λ (r : Reader). readerAfter r (drop 1 (opening Eight))) e ∙ rest-found Eight n
+
 computed : (m : Form) (w : Within) (t : Sets) (l g : Element) → readerAfter (reading m t l (shownInGR m g) w) (opening m) ≡ started m
 unfolding between columnArea formHasColumn positionOf setByte sequenceByte c1Function shiftOrOther meaningOfNone designation
     byIntermediate meaningOfOne matchedWith oneMore c0Byte byteIn means answerInStep answerLost answerTo
 computed Seven Within.Ground t l g = refl
 computed Seven (Within.Sequence s) t l g = refl
-computed Seven (Within.SingleShift e) t l g = refl
-computed Seven (Within.Character e GraphicArea.GL p) t l g = refl
-computed Seven (Within.Character e GraphicArea.GR p) t l g = refl
+computed Seven (Within.SingleShift e) t l g = finds t l G1 Seven (Within.SingleShift e) refl
+computed Seven (Within.Character e GraphicArea.GL p) t l g = finds t l G1 Seven (Within.Character e GraphicArea.GL p) refl
+computed Seven (Within.Character e GraphicArea.GR p) t l g = finds t l G1 Seven (Within.Character e GraphicArea.GR p) refl
 computed Eight Within.Ground t l g = refl
 computed Eight (Within.Sequence s) t l g = refl
-computed Eight (Within.SingleShift e) t l g = refl
-computed Eight (Within.Character e GraphicArea.GL p) t l g = refl
-computed Eight (Within.Character e GraphicArea.GR p) t l g = refl
+computed Eight (Within.SingleShift e) t l g = finds t l g Eight (Within.SingleShift e) refl
+computed Eight (Within.Character e GraphicArea.GL p) t l g = finds t l g Eight (Within.Character e GraphicArea.GL p) refl
+computed Eight (Within.Character e GraphicArea.GR p) t l g = finds t l g Eight (Within.Character e GraphicArea.GR p) refl
 
 pub from-in-step : (m : Form) (w : Within) (t : Sets) (l g : Element) → (m ≡ Seven → g ≡ G1) →
     readerAfter (reading m t l g w) (opening m) ≡ started m
