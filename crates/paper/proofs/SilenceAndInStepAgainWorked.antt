@@ -2,7 +2,7 @@
 -- bytes before an opening can stop, in one table that is computed. Each row has the end word of these bytes, and the offset and the
 -- answer of the opening's last byte; the text 4/1 SO 4/1 then gets the answers and the end word that it gets alone.
 use Prim.Native.Nat.{ℕ, _+_}
-use mathlib.Core.Path.{_≡_, refl}
+use mathlib.Core.Path.{_≡_, refl, ap, _∙_}
 use mathlib.Core.List.{List, [], _∷_, _++_, map}
 use native.Mathlib.Omega.{arith}
 use lib.ListN.{take, drop}
@@ -18,7 +18,7 @@ use Rattle.paper.specs.Characters.{c0Byte, byteIn, character}
 use Rattle.paper.specs.Answering.{means, answerInStep, answerLost, answerTo}
 use Rattle.paper.specs.Texts.{Placed, answersOf, endWord, answerAfter, later}
 use Rattle.paper.proofs.OpeningsAmongBytes.{too-few}
-use Rattle.paper.proofs.SilenceAndInStepAgain.{silence}
+use Rattle.paper.proofs.SilenceAndInStepAgain.{silence, in-step-again}
 
 -- ---- silence
 
@@ -99,8 +99,26 @@ expected s = (
   record { offset = s .offset; answer = s .last } ∷ later (s .offset + 1) answersAlone,
 )
 
-pub stops-hold : map given stops ≡ map expected stops
+-- the end word of all is the text's own, by the theorem; the rest is computed
+abbrev givenAlone : Stop → List EndWord × List Placed × List Placed
+givenAlone s =
+    let m = s .form in
+    let all = (s .before ++ opening m) ++ textAfter in
+    (endWord m (s .before) ∷ endWord m textAfter ∷ endWord m textAfter ∷ [], answersOf m textAfter, drop (s .offset) (answersOf m all))
+
+ends-as-alone : (s : Stop) → given s ≡ givenAlone s
+ends-as-alone s =
+    let m : Form = s .form in
+    let all : List ℕ = (s .before ++ opening m) ++ textAfter in
+    ap (λ (w : EndWord).
+    (endWord m (s .before) ∷ endWord m textAfter ∷ w ∷ [], answersOf m textAfter, drop (s .offset) (answersOf m all)))
+    (in-step-again m (s .before) textAfter .1)
+
+computed : map givenAlone stops ≡ map expected stops
 unfolding between columnArea formHasColumn positionOf setByte sequenceByte c1Function shiftOrOther meaningOfNone designation
     shortDesignation byIntermediate meaningOfOne severalBytes meaningOfTwo matchedWith oneMore c0Byte byteIn character means
     answerInStep answerLost answerTo
-stops-hold = refl
+computed = refl
+
+pub stops-hold : map given stops ≡ map expected stops
+stops-hold = (λ i. map (λ (s : Stop). ends-as-alone s i) stops) ∙ computed
