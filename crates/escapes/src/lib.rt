@@ -15,13 +15,13 @@ ghost use Rattle.paper.specs.Sequences.{designation, shortDesignation, byInterm
 ghost use Rattle.paper.specs.Sequences.{meaningOfTwo, meaningOf};
 
 // An intermediate is of column 2, a final is 3/0 to 7/14.
-const FIRST_INTERMEDIATE: u8 = 0x20;
+pub const FIRST_INTERMEDIATE: u8 = 0x20;
 
-const LAST_INTERMEDIATE: u8 = 0x2F;
+pub const LAST_INTERMEDIATE: u8 = 0x2F;
 
 const FIRST_FINAL: u8 = 0x30;
 
-const LAST_FINAL: u8 = 0x7E;
+pub const LAST_FINAL: u8 = 0x7E;
 
 // The C1 functions are numbered 0 to 31; two of them are the single shifts.
 const LAST_FUNCTION: u8 = 31;
@@ -31,7 +31,7 @@ const SINGLE_SHIFT_TWO: u8 = 14;
 const SINGLE_SHIFT_THREE: u8 = 15;
 
 // The intermediate that leads to sets of several bytes.
-const SEVERAL: u8 = 0x24;
+pub const SEVERAL: u8 = 0x24;
 
 // What a byte is inside a sequence: the sequence goes on with it, ends with it, or the byte may not stand there.
 pub fn sequence_byte(byte: u8) -> SequenceByte
