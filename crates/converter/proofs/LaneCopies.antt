@@ -2,7 +2,6 @@
 -- as that character, and a writer that shows the element writes it in one byte.
 use Prim.Native.Nat.{ℕ, suc, _+_, _%_, _≤_, _<_}
 use mathlib.Core.Path.{_≡_, refl, sym, ap, subst}
-use mathlib.Core.Bool.{true}
 use mathlib.Core.List.{_∷_, []}
 use native.Mathlib.Omega.{arith}
 use borrow.Author.Tests.{le-leb, ne-eqb, ltb-true}
@@ -25,16 +24,18 @@ use Rattle.paper.specs.declared.SetByte.{SetByte}
 use Rattle.paper.specs.declared.GraphicArea.{GraphicArea}
 use Rattle.paper.specs.declared.PositionBytes.{PositionBytes}
 use Rattle.paper.specs.declared.Within.{Within}
-use Rattle.paper.specs.declared.Standing.{Standing}
 use Rattle.paper.specs.declared.Reader.{Reader}
 use Rattle.paper.specs.declared.Refusal.{Refusal}
 use Rattle.paper.specs.declared.Answer.{Answer}
 use Rattle.paper.proofs.Choices.{impossible, gives-by}
 use Rattle.paper.proofs.ReadingOn.{readerWith}
 use Rattle.paper.proofs.WrittenCharactersReadBack.{begins-in-gl, begins-in-gr}
+use Rattle.converter.specs.declared.state.Single.{Single}
 use Rattle.converter.specs.declared.lane.Copy.{Copy}
+use Rattle.converter.specs.declared.lane.Lane.{Lane}
 use Rattle.converter.specs.Lanes.{ifOne, copyInSeven, copyInEight, laneOf, copiedFromGL, copiedFromGR, copied}
-use Rattle.converter.specs.Passes.{otherThan, isGround, onGround}
+use Rattle.converter.specs.Passes.{otherThan}
+use Rattle.converter.specs.States.{sizeOf, stateOf, standingOf}
 
 -- a byte that the lane copies is a whole character that leaves reader and writer as they are, and is written as that one byte
 pub record Copies (to : Form) (gl : Element) (r : Reader) (b c : ℕ) : Type 0 where
@@ -52,43 +53,47 @@ record Alone (to : Form) (gl : Element) (t : Sets) (e : Element) (p c : ℕ) : T
   pub writes : writtenFor to (record { sets = t; gl = gl }) (Answer.Char e (setIn t e) (PositionBytes.One p)) ≡ c ∷ []
   pub shows : writerAfter to (record { sets = t; gl = gl }) (Answer.Char e (setIn t e) (PositionBytes.One p)) .gl ≡ gl
 
-one-copied : (made : Copy → ℕ) (n : Count) (copy : Copy) (c : ℕ) → made Copy.Not ≡ 0 → made (ifOne n copy) ≡ suc c →
+one-copied : (made : Copy → ℕ) (k : Kind) (n : Count) (copy : Copy) (c : ℕ) → made Copy.Not ≡ 0 → made (ifOne (sizeOf k n) copy) ≡ suc c →
     (n ≡ Count.One) × (made copy ≡ suc c)
-one-copied made Count.One copy c none e = (refl, e)
-one-copied made Count.Two copy c none e = impossible (cc)
-one-copied made Count.Three copy c none e = impossible (cc)
+one-copied made Of94 Count.One copy c none e = (refl, e)
+one-copied made Of94 Count.Two copy c none e = impossible (cc)
+one-copied made Of94 Count.Three copy c none e = impossible (cc)
+one-copied made Of96 Count.One copy c none e = (refl, e)
+one-copied made Of96 Count.Two copy c none e = impossible (cc)
+one-copied made Of96 Count.Three copy c none e = impossible (cc)
 
 -- `made` is how a copy is written: of GL or of GR
-in-seven : (made : Copy → ℕ) (t : Sets) (e gl : Element) (c : ℕ) → made Copy.Not ≡ 0 → made (copyInSeven t e gl) ≡ suc c →
-    Alone Seven gl t e (made Copy.Low) (suc c)
-in-seven made t G0 G0 c none e =
-    let h = one-copied made (t .g0 .count) Copy.Low c none e in
+in-seven : (made : Copy → ℕ) (r : Reader) (e gl : Element) (c : ℕ) → made Copy.Not ≡ 0 →
+    made (copyInSeven (stateOf r gl) e gl) ≡ suc c → Alone Seven gl (r .sets) e (made Copy.Low) (suc c)
+in-seven made r G0 G0 c none e =
+    let h = one-copied made (r .sets .g0 .kind) (r .sets .g0 .count) Copy.Low c none e in
     record { one = h .0; writes = ap (λ (p : ℕ). p ∷ []) (h .1); shows = refl }
-in-seven made t G0 G1 c none e = impossible (cc)
-in-seven made t G0 G2 c none e = impossible (cc)
-in-seven made t G0 G3 c none e = impossible (cc)
-in-seven made t G1 G0 c none e = impossible (cc)
-in-seven made t G1 G1 c none e =
-    let h = one-copied made (t .g1 .count) Copy.Low c none e in
+in-seven made r G0 G1 c none e = impossible (cc)
+in-seven made r G0 G2 c none e = impossible (cc)
+in-seven made r G0 G3 c none e = impossible (cc)
+in-seven made r G1 G0 c none e = impossible (cc)
+in-seven made r G1 G1 c none e =
+    let h = one-copied made (r .sets .g1 .kind) (r .sets .g1 .count) Copy.Low c none e in
     record { one = h .0; writes = ap (λ (p : ℕ). p ∷ []) (h .1); shows = refl }
-in-seven made t G1 G2 c none e = impossible (cc)
-in-seven made t G1 G3 c none e = impossible (cc)
-in-seven made t G2 gl c none e = impossible (cc)
-in-seven made t G3 gl c none e = impossible (cc)
+in-seven made r G1 G2 c none e = impossible (cc)
+in-seven made r G1 G3 c none e = impossible (cc)
+in-seven made r G2 gl c none e = impossible (cc)
+in-seven made r G3 gl c none e = impossible (cc)
 
-in-eight : (gl : Element) (t : Sets) (e : Element) (b c : ℕ) → copiedFromGL (copyInEight t e) b ≡ suc c → Alone Eight gl t e b (suc c)
-in-eight gl t G0 b c e =
-    let h = one-copied (λ copy. copiedFromGL copy b) (t .g0 .count) Copy.Low c refl e in
+in-eight : (gl : Element) (r : Reader) (e : Element) (b c : ℕ) → copiedFromGL (copyInEight (stateOf r gl) e) b ≡ suc c →
+    Alone Eight gl (r .sets) e b (suc c)
+in-eight gl r G0 b c e =
+    let h = one-copied (λ copy. copiedFromGL copy b) (r .sets .g0 .kind) (r .sets .g0 .count) Copy.Low c refl e in
     record { one = h .0; writes = ap (λ (p : ℕ). p ∷ []) (h .1); shows = refl }
-in-eight gl t G1 b c e =
-    let h = one-copied (λ copy. copiedFromGL copy b) (t .g1 .count) Copy.High c refl e in
+in-eight gl r G1 b c e =
+    let h = one-copied (λ copy. copiedFromGL copy b) (r .sets .g1 .kind) (r .sets .g1 .count) Copy.High c refl e in
     record { one = h .0; writes = ap (λ (p : ℕ). p ∷ []) (h .1); shows = refl }
-in-eight gl t G2 b c e = impossible (cc)
-in-eight gl t G3 b c e = impossible (cc)
+in-eight gl r G2 b c e = impossible (cc)
+in-eight gl r G3 b c e = impossible (cc)
 
 -- ---- the reader
 
-position-of-set : (k : Kind) (q : ℕ) → space < q → q < delete → setByte k q ≡ SetByte.OfSet
+pub position-of-set : (k : Kind) (q : ℕ) → space < q → q < delete → setByte k q ≡ SetByte.OfSet
 unfolding setByte between
 position-of-set Of94 q low high =
     let first : space ≤ q = omega arith in
@@ -105,6 +110,9 @@ module _ (gl : Element) (t : Sets) (left right : Element) where
   abbrev here : Form → Reader
   here to = readerWith (otherThan to) t left right Within.Ground
 
+  abbrev lane : Form → Lane
+  lane to = laneOf to (stateOf (here to) gl) Single.Not
+
   -- a byte that begins a character, of a set with one to a character
   copies : (to : Form) (e : Element) (a : GraphicArea) (p b c : ℕ) →
       answerTo (here to) b ≡ character e (setIn t e) a (PositionBytes.One p) (here to) → Alone to gl t e p (suc c) →
@@ -119,11 +127,11 @@ module _ (gl : Element) (t : Sets) (left right : Element) where
         shows = alone .shows;
       }
 
-  left-alone : (to : Form) (b c : ℕ) → copiedFromGL (laneOf to gl (here to) .left) b ≡ suc c → Alone to gl t left b (suc c)
-  left-alone Seven b c e = in-seven (λ copy. copiedFromGL copy b) t left gl c refl e
-  left-alone Eight b c e = in-eight gl t left b c e
+  left-alone : (to : Form) (b c : ℕ) → copiedFromGL (lane to .left) b ≡ suc c → Alone to gl t left b (suc c)
+  left-alone Seven b c e = in-seven (λ copy. copiedFromGL copy b) (here Seven) left gl c refl e
+  left-alone Eight b c e = in-eight gl (here Eight) left b c e
 
-  from-gl : (to : Form) (b c : ℕ) → space < b → b < delete → copiedFromGL (laneOf to gl (here to) .left) b ≡ suc c →
+  from-gl : (to : Form) (b c : ℕ) → space < b → b < delete → copiedFromGL (lane to .left) b ≡ suc c →
       Copies to gl (here to) b (suc c)
   from-gl to b c low high e =
       copies to left GraphicArea.GL b b c
@@ -132,17 +140,17 @@ module _ (gl : Element) (t : Sets) (left right : Element) where
 
   -- only 8-bit form has bytes of GR
   from-gr : (to : Form) (b c : ℕ) → bit8 + space < b → b < bit8 + delete →
-      copiedFromGR (laneOf to gl (here to) .right) (b % bit8) ≡ suc c → Copies to gl (here to) b (suc c)
+      copiedFromGR (lane to .right) (b % bit8) ≡ suc c → Copies to gl (here to) b (suc c)
   from-gr Seven b c low high e =
       let q : ℕ = b % bit8 in
       let back : byteFrom GraphicArea.GR q ≡ b = omega arith in
       copies Seven right GraphicArea.GR q b c
       (subst (λ (b : ℕ). answerTo (here Seven) b ≡ character right (setIn t right) GraphicArea.GR (PositionBytes.One q) (here Seven)) back
       (begins-in-gr Eight t left right refl q (position-of-set (setIn t right .kind) q (omega arith) (omega arith))))
-      (in-seven (λ copy. copiedFromGR copy q) t right gl c refl e)
+      (in-seven (λ copy. copiedFromGR copy q) (here Seven) right gl c refl e)
   from-gr Eight b c low high e = impossible (cc)
 
-  in-lane : (to : Form) (b c : ℕ) → copied (laneOf to gl (here to)) b ≡ suc c → Copies to gl (here to) b (suc c)
+  in-lane : (to : Form) (b c : ℕ) → copied (lane to) b ≡ suc c → Copies to gl (here to) b (suc c)
   unfolding copied
   in-lane to b c =
       let P : ℕ → Type 0 = λ n. n ≡ suc c → Copies to gl (here to) b (suc c) in
@@ -156,22 +164,24 @@ module _ (gl : Element) (t : Sets) (left right : Element) where
       (λ no e. impossible (cc)))
       (λ no e. impossible (cc)))
 
--- ---- a reader on the ground
+-- ---- a reader between two items
 
-within-ground : (w : Within) → isGround w ≡ true → w ≡ Within.Ground
-within-ground Within.Ground e = refl
-within-ground (Within.Sequence s) e = impossible (cc)
-within-ground (Within.SingleShift e) f = impossible (cc)
-within-ground (Within.Character e a p) f = impossible (cc)
+-- after a single shift there is no lane
+no-lane : (b c : ℕ) → copied (record { left = Copy.Not; right = Copy.Not }) b ≡ suc c → ⊥
+unfolding copied
+no-lane b c =
+    let P : ℕ → Type 0 = λ n. n ≡ suc c → ⊥ in
+    gives-by P (ltb (bit8 + space) b)
+    (λ high. gives-by P (ltb b (bit8 + delete)) (λ below e. impossible (cc)) (λ no e. impossible (cc)))
+    (λ no. gives-by P (ltb space b)
+    (λ above. gives-by P (ltb b delete) (λ below e. impossible (cc)) (λ no e. impossible (cc)))
+    (λ no e. impossible (cc)))
 
-pub standing-on-ground : (s : Standing) → onGround s ≡ true → s ≡ Standing.InStep Within.Ground
-standing-on-ground (Standing.InStep w) e = ap Standing.InStep (within-ground w e)
-standing-on-ground (Standing.Lost k n) e = impossible (cc)
-
-pub lane-copies : (to : Form) (gl : Element) (r : Reader) (b c : ℕ) → r .form ≡ otherThan to → onGround (r .standing) ≡ true →
-    copied (laneOf to gl r) b ≡ suc c → Copies to gl r b (suc c)
-lane-copies to gl r b c form ground e =
-    let stands = standing-on-ground (r .standing) ground in
-    subst (λ (x : Reader). copied (laneOf to gl x) b ≡ suc c → Copies to gl x b (suc c))
+pub lane-copies : (to : Form) (gl : Element) (r : Reader) (t : Single) (b c : ℕ) → r .form ≡ otherThan to →
+    r .standing ≡ standingOf t → copied (laneOf to (stateOf r gl) t) b ≡ suc c → Copies to gl r b (suc c)
+lane-copies to gl r Single.Not b c form stands e =
+    subst (λ (x : Reader). copied (laneOf to (stateOf x gl) Single.Not) b ≡ suc c → Copies to gl x b (suc c))
     (λ i. record { form = sym form i; sets = r .sets; gl = r .gl; gr = r .gr; standing = sym stands i })
     (in-lane gl (r .sets) (r .gl) (r .gr) to b c) e
+lane-copies to gl r Single.OfG2 b c form stands e = absurd (no-lane b c e)
+lane-copies to gl r Single.OfG3 b c form stands e = absurd (no-lane b c e)

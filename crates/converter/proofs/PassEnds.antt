@@ -1,7 +1,6 @@
 -- What a pass answers at the end of the text, or where it is refused, is what is promised of it.
 use Prim.Native.Nat.{ℕ, _≤_}
 use mathlib.Core.Path.{_≡_, refl, sym, ap, _∙_}
-use mathlib.Core.Bool.{true}
 use mathlib.Core.List.{List}
 use native.Mathlib.Omega.{arith}
 use lib.ListN.{length}
@@ -9,18 +8,17 @@ use Rattle.paper.specs.Answering.{endOfText, endStanding}
 use Rattle.paper.specs.LentBuffers.{over}
 use Rattle.paper.specs.Conversions.{refusalAtEnd, refusalIn, Accepted}
 use Rattle.paper.specs.declared.Form.{Form}
-use Rattle.paper.specs.declared.Element.{Element}
-use Rattle.paper.specs.declared.EndWord.{EndWord}
-use Rattle.paper.specs.declared.Reader.{Reader}
 use Rattle.paper.specs.declared.Refusal.{Refusal}
 use Rattle.paper.specs.declared.Standing.{Standing}
 use Rattle.paper.specs.declared.Converted.{Converted}
 use Rattle.paper.specs.declared.FirstRefusal.{FirstRefusal}
-use Rattle.paper.specs.declared.FirstRefusal.the-variants.{Never, First}
+use Rattle.paper.specs.declared.FirstRefusal.the-variants.{First}
 use Rattle.paper.proofs.Choices.{impossible}
-use Rattle.converter.specs.Passes.{otherThan, passedBy, onGround}
-use Rattle.converter.specs.Passing.{outputTo, Passing}
-use Rattle.converter.proofs.LaneCopies.{standing-on-ground}
+use Rattle.converter.specs.Passes.{otherThan, passedBy, endedAt}
+use Rattle.converter.specs.Passing.{outputTo, Passes}
+use Rattle.converter.specs.States.{standingOf}
+use Rattle.converter.specs.declared.state.Single.{Single}
+use Rattle.converter.specs.declared.state.State.{State}
 use Rattle.converter.proofs.PassGoesOn.{passing-ends}
 
 -- the answer, and the buffer where the text is accepted and has room
@@ -34,19 +32,23 @@ pub refused-promised : (to : Form) (text lent buffer : List ℕ) (n : Refusal) (
 refused-promised to text lent buffer n place e =
     (ap (λ (f : FirstRefusal). passedBy f (length (outputTo to text))) (sym e), λ accepted room. impossible (cc))
 
-module _ {to : Form} {text lent : List ℕ} {r : Reader} {gl : Element} {at place : ℕ} {buffer : List ℕ}
-    (p : Passing to text lent r gl at place buffer) (past : length text ≤ place) where
-  pub end-promised : (word : EndWord) → word ≡ endOfText r → Promised to text lent (passedBy (refusalAtEnd word place) at) buffer
-  end-promised word e =
-      let ends = passing-ends p past in
-      let at-the-end : place ≡ length text = omega (arith, p .within) in (
-        ap (λ (n : ℕ). passedBy (refusalAtEnd word n) at) at-the-end ∙
-            ap (λ (w : EndWord). passedBy (refusalAtEnd w (length text)) at) e ∙
-            ap (λ (f : FirstRefusal). passedBy f at) (sym (ends .0)) ∙
-            ap (λ (n : ℕ). passedBy (refusalIn (otherThan to) text) n) (sym (ends .1)),
-        λ accepted. ends .2,
-      )
+ended-by : (t : Single) (at place : ℕ) → passedBy (refusalAtEnd (endStanding (standingOf t)) place) at ≡ endedAt t at place
+ended-by Single.Not at place = refl
+ended-by Single.OfG2 at place = refl
+ended-by Single.OfG3 at place = refl
 
-  pub ground-promised : onGround (r .standing) ≡ true → Promised to text lent (Converted.Done at) buffer
-  ground-promised ground =
-      end-promised EndWord.Whole (sym (ap (λ (s : Standing). endStanding s) (standing-on-ground (r .standing) ground)))
+-- after a single shift the text ends inside
+pub end-promised : {to : Form} {text lent : List ℕ} {s : State} {t : Single} {at place : ℕ} {buffer : List ℕ} →
+    Passes to text lent s t at place buffer → length text ≤ place → (answer : Converted) → answer ≡ endedAt t at place →
+    Promised to text lent answer buffer
+end-promised {to} {text} {lent} {s} {t} {at} {place} {buffer} p past answer is =
+    let ends = passing-ends (p .passing) past in
+    let at-the-end : place ≡ length text = omega (arith, p .passing .within) in (
+      is ∙
+          sym (ended-by t at place) ∙
+          ap (λ (x : Standing). passedBy (refusalAtEnd (endStanding x) place) at) (sym (p .stands)) ∙
+          ap (λ (n : ℕ). passedBy (refusalAtEnd (endOfText (p .reader)) n) at) at-the-end ∙
+          ap (λ (f : FirstRefusal). passedBy f at) (sym (ends .0)) ∙
+          ap (λ (n : ℕ). passedBy (refusalIn (otherThan to) text) n) (sym (ends .1)),
+      λ accepted. ends .2,
+    )

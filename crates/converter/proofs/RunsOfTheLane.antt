@@ -1,20 +1,17 @@
 -- While a run of the lane is copied, every pass that was at its first place is at this one.
-use Prim.Native.Nat.{ℕ, zero, suc, _+_, _-_, _<_, _≤_}
-use mathlib.Core.Path.{_≡_, refl, sym, ap, _∙_, subst}
-use mathlib.Core.Bool.{true}
-use mathlib.Core.List.{List, [], _∷_}
-use native.Mathlib.Nat.{add-zero}
+use Prim.Native.Nat.{ℕ, suc, _+_, _-_, _<_, _≤_}
+use mathlib.Core.Path.{_≡_, refl, sym, ap, _∙_}
+use mathlib.Core.List.{List}
 use native.Mathlib.Omega.{arith}
 use borrow.Author.Tests.{ltb-true}
 use lib.Dec.{ltb}
 use lib.ListN.{length, getD, set}
 use Rattle.paper.specs.declared.Form.{Form}
-use Rattle.paper.specs.declared.Element.{Element}
-use Rattle.paper.specs.declared.Reader.{Reader}
 use Rattle.paper.proofs.Choices.{gives-by}
 use Rattle.converter.specs.Lanes.{laneOf, copied, nextCopied}
-use Rattle.converter.specs.Passes.{onGround}
-use Rattle.converter.specs.Passing.{Passing}
+use Rattle.converter.specs.Passing.{Passes}
+use Rattle.converter.specs.declared.state.Single.{Single}
+use Rattle.converter.specs.declared.state.State.{State}
 use Rattle.converter.specs.declared.lane.Lane.{Lane}
 use Rattle.converter.proofs.PassByTurns.{copy-goes-on}
 
@@ -36,8 +33,8 @@ pub record Running (lane : Lane) (text : List ℕ) (place at : ℕ) (lent : List
   pub so-many : there ≡ at + (here - place)
   pub as-long : length buffer ≡ length lent
   pub next : copy ≡ nextCopied lane text here
-  pub passing : (to : Form) (gl : Element) (r : Reader) (first : List ℕ) → lane ≡ laneOf to gl r → onGround (r .standing) ≡ true →
-      Passing to text first r gl at place lent → Passing to text first r gl there here buffer
+  pub passing : (to : Form) (s : State) (t : Single) (first : List ℕ) → lane ≡ laneOf to s t →
+      Passes to text first s t at place lent → Passes to text first s t there here buffer
 
 pub running-starts : (lane : Lane) (text : List ℕ) (place at : ℕ) (lent : List ℕ) (copy : ℕ) → place ≤ length text →
     copy ≡ nextCopied lane text place → Running lane text place at lent place at copy lent
@@ -47,7 +44,7 @@ running-starts lane text place at lent copy h e = record {
   so-many = omega arith;
   as-long = refl;
   next = e;
-  passing = λ to gl r first is ground p. p;
+  passing = λ to s t first is p. p;
 }
 
 module _ {lane : Lane} {text : List ℕ} {place at : ℕ} {lent : List ℕ} {here there copy : ℕ} {buffer : List ℕ}
@@ -56,14 +53,13 @@ module _ {lane : Lane} {text : List ℕ} {place at : ℕ} {lent : List ℕ} {her
   still-inside = in-lane lane text here copy (run .next) more .inside
 
   step : (c : ℕ) → copy ≡ suc c → (after : List ℕ) → (there < length buffer → after ≡ set buffer there copy) →
-      length after ≡ length buffer → (to : Form) (gl : Element) (r : Reader) (first : List ℕ) → lane ≡ laneOf to gl r →
-      onGround (r .standing) ≡ true → Passing to text first r gl there here buffer →
-      Passing to text first r gl (there + 1) (here + 1) after
-  step c e after stored as-long to gl r first is ground p =
-      copy-goes-on p ground still-inside c
+      length after ≡ length buffer → (to : Form) (s : State) (t : Single) (first : List ℕ) → lane ≡ laneOf to s t →
+      Passes to text first s t there here buffer → Passes to text first s t (there + 1) (here + 1) after
+  step c e after stored as-long to s t first is p =
+      copy-goes-on p still-inside c
       (ap (λ (l : Lane). copied l (getD text here 0)) (sym is) ∙ in-lane lane text here copy (run .next) more .is ∙ e)
       after as-long
-      (λ h. stored (omega (arith, p .as-long)) ∙ ap (set buffer there) e)
+      (λ h. stored (omega (arith, p .passing .as-long)) ∙ ap (set buffer there) e)
 
   as-a-successor : (n : ℕ) → 0 < n → n ≡ suc (n - 1)
   as-a-successor n h = omega arith
@@ -77,6 +73,6 @@ module _ {lane : Lane} {text : List ℕ} {place at : ℕ} {lent : List ℕ} {her
     so-many = omega (arith, run .so-many, run .from);
     as-long = as-long ∙ run .as-long;
     next = e;
-    passing = λ to gl r first is ground p.
-        step (copy - 1) (as-a-successor copy more) after stored as-long to gl r first is ground (run .passing to gl r first is ground p);
+    passing = λ to s t first is p.
+        step (copy - 1) (as-a-successor copy more) after stored as-long to s t first is (run .passing to s t first is p);
   }

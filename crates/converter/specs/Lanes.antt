@@ -8,42 +8,51 @@ use Rattle.paper.specs.Choice.{_gives_or_}
 use Rattle.paper.specs.CodeTable.{bit8}
 use Rattle.paper.specs.Sets.{space, delete}
 use Rattle.paper.specs.declared.Form.{Form}
-use Rattle.paper.specs.declared.Count.{Count}
 use Rattle.paper.specs.declared.Element.{Element}
-use Rattle.paper.specs.declared.Sets.{Sets}
-use Rattle.paper.specs.declared.Reader.{Reader}
+use Rattle.converter.specs.declared.state.Size.{Size}
+use Rattle.converter.specs.declared.state.Single.{Single}
+use Rattle.converter.specs.declared.state.State.{State}
 use Rattle.converter.specs.declared.lane.Copy.{Copy}
 use Rattle.converter.specs.declared.lane.Lane.{Lane}
 
-abbrev pub ifOne : Count → Copy → Copy
-ifOne Count.One c = c
-ifOne Count.Two c = Copy.Not
-ifOne Count.Three c = Copy.Not
+abbrev pub ifOne : Size → Copy → Copy
+ifOne Size.Of94 c = c
+ifOne Size.Of96 c = c
+ifOne Size.TwoOf94 c = Copy.Not
+ifOne Size.TwoOf96 c = Copy.Not
+ifOne Size.ThreeOf94 c = Copy.Not
+ifOne Size.ThreeOf96 c = Copy.Not
 
 -- 7-bit: the element must be the one that GL shows
-abbrev pub copyInSeven : Sets → Element → Element → Copy
-copyInSeven t Element.G0 Element.G0 = ifOne (t .g0 .count) Copy.Low
-copyInSeven t Element.G0 Element.G1 = Copy.Not
-copyInSeven t Element.G0 Element.G2 = Copy.Not
-copyInSeven t Element.G0 Element.G3 = Copy.Not
-copyInSeven t Element.G1 Element.G0 = Copy.Not
-copyInSeven t Element.G1 Element.G1 = ifOne (t .g1 .count) Copy.Low
-copyInSeven t Element.G1 Element.G2 = Copy.Not
-copyInSeven t Element.G1 Element.G3 = Copy.Not
-copyInSeven t Element.G2 gl = Copy.Not
-copyInSeven t Element.G3 gl = Copy.Not
+abbrev pub copyInSeven : State → Element → Element → Copy
+copyInSeven s Element.G0 Element.G0 = ifOne (s .g0) Copy.Low
+copyInSeven s Element.G0 Element.G1 = Copy.Not
+copyInSeven s Element.G0 Element.G2 = Copy.Not
+copyInSeven s Element.G0 Element.G3 = Copy.Not
+copyInSeven s Element.G1 Element.G0 = Copy.Not
+copyInSeven s Element.G1 Element.G1 = ifOne (s .g1) Copy.Low
+copyInSeven s Element.G1 Element.G2 = Copy.Not
+copyInSeven s Element.G1 Element.G3 = Copy.Not
+copyInSeven s Element.G2 shown = Copy.Not
+copyInSeven s Element.G3 shown = Copy.Not
 
 -- 8-bit: G0 from GL, G1 from GR
-abbrev pub copyInEight : Sets → Element → Copy
-copyInEight t Element.G0 = ifOne (t .g0 .count) Copy.Low
-copyInEight t Element.G1 = ifOne (t .g1 .count) Copy.High
-copyInEight t Element.G2 = Copy.Not
-copyInEight t Element.G3 = Copy.Not
+abbrev pub copyInEight : State → Element → Copy
+copyInEight s Element.G0 = ifOne (s .g0) Copy.Low
+copyInEight s Element.G1 = ifOne (s .g1) Copy.High
+copyInEight s Element.G2 = Copy.Not
+copyInEight s Element.G3 = Copy.Not
 
--- beside a reader in the other form: 8-bit text goes to 7-bit form, and 7-bit text has no bytes of GR
-abbrev pub laneOf : Form → Element → Reader → Lane
-laneOf Form.Seven gl r = record { left = copyInSeven (r .sets) (r .gl) gl; right = copyInSeven (r .sets) (r .gr) gl }
-laneOf Form.Eight gl r = record { left = copyInEight (r .sets) (r .gl); right = Copy.Not }
+-- 8-bit text goes to 7-bit form, and 7-bit text has no bytes of GR
+abbrev pub laneOnGround : Form → State → Lane
+laneOnGround Form.Seven s = record { left = copyInSeven s (s .gl) (s .shown); right = copyInSeven s (s .gr) (s .shown) }
+laneOnGround Form.Eight s = record { left = copyInEight s (s .gl); right = Copy.Not }
+
+-- after a single shift there is none
+abbrev pub laneOf : Form → State → Single → Lane
+laneOf to s Single.Not = laneOnGround to s
+laneOf to s Single.OfG2 = record { left = Copy.Not; right = Copy.Not }
+laneOf to s Single.OfG3 = record { left = Copy.Not; right = Copy.Not }
 
 -- a position byte as it is written; 0 where it is not written so
 abbrev pub copiedFromGL : Copy → ℕ → ℕ

@@ -1,6 +1,7 @@
 pub mod Pieces
+pub mod States
 pub mod Turns
-pub mod Lanes
 pub mod Passes
+pub mod Items
+pub mod Lanes
 pub mod Passing
-pub mod AheadOfFinals

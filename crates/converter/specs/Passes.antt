@@ -1,13 +1,12 @@
 -- No rule of the paper: for the contracts of private functions.
 -- What a pass over a text answers: the first of 1 to 7, or the length of the output.
 use Prim.Native.Nat.{ℕ}
-use mathlib.Core.Bool.{Bool, true, false}
 use Rattle.paper.specs.declared.Form.{Form}
 use Rattle.paper.specs.declared.FirstRefusal.{FirstRefusal}
 use Rattle.paper.specs.declared.FirstRefusal.the-variants.{Never, First}
 use Rattle.paper.specs.declared.Converted.{Converted}
-use Rattle.paper.specs.declared.Within.{Within}
-use Rattle.paper.specs.declared.Standing.{Standing}
+use Rattle.paper.specs.declared.Refusal.{Refusal}
+use Rattle.converter.specs.declared.state.Single.{Single}
 
 abbrev pub passedBy : FirstRefusal → ℕ → Converted
 passedBy Never n = Converted.Done n
@@ -18,12 +17,8 @@ abbrev pub otherThan : Form → Form
 otherThan Form.Seven = Form.Eight
 otherThan Form.Eight = Form.Seven
 
-abbrev pub isGround : Within → Bool
-isGround Within.Ground = true
-isGround (Within.Sequence s) = false
-isGround (Within.SingleShift e) = false
-isGround (Within.Character e a p) = false
-
-abbrev pub onGround : Standing → Bool
-onGround (Standing.InStep w) = isGround w
-onGround (Standing.Lost k n) = false
+-- at the end of the text: 7 after a single shift
+abbrev pub endedAt : Single → ℕ → ℕ → Converted
+endedAt Single.Not at place = Converted.Done at
+endedAt Single.OfG2 at place = Converted.Refused Refusal.EndsInside place
+endedAt Single.OfG3 at place = Converted.Refused Refusal.EndsInside place

@@ -17,6 +17,9 @@ use Rattle.paper.specs.declared.Reader.{Reader}
 use Rattle.paper.specs.declared.FirstRefusal.{FirstRefusal}
 use Rattle.paper.proofs.LawfulAnswers.{IsInStep}
 use Rattle.converter.specs.Passes.{otherThan}
+use Rattle.converter.specs.States.{stateOf, standingOf}
+use Rattle.converter.specs.declared.state.Single.{Single}
+use Rattle.converter.specs.declared.state.State.{State}
 
 -- the writer beside a reader has the reader's sets
 abbrev pub beside : Reader → Element → Writer
@@ -44,3 +47,11 @@ pub record Passing (to : Form) (text lent : List ℕ) (r : Reader) (gl : Element
   pub counted : length so-far ≡ at
   pub as-long : length buffer ≡ length lent
   pub wrote : length (outputTo to text) ≤ length lent → buffer ≡ over so-far lent
+
+-- the same of what a conversion knows: some reader has this state and stands so
+pub record Passes (to : Form) (text lent : List ℕ) (s : State) (t : Single) (at place : ℕ) (buffer : List ℕ) : Type 0 where
+  pub reader : Reader
+  pub shown : Element
+  pub has : s ≡ stateOf reader shown
+  pub stands : reader .standing ≡ standingOf t
+  pub passing : Passing to text lent reader shown at place buffer

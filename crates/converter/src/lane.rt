@@ -1,22 +1,21 @@
-// The lane: characters of one byte that are written in one byte, with nothing before it, and leave reader and writer as they are. A
-// run of them is passed without asking the reader.
+// The lane: characters of one byte that are written in one byte, with nothing before it, and leave the state as it is. A run of them
+// is copied.
+use crate::state::Single;
+use crate::state::Size;
+use crate::state::State;
 use charsets::DELETE;
 use charsets::SPACE;
 use codetable::BIT_8;
-use paper::Count;
 use paper::Element;
 use paper::Form;
-use paper::Reader;
-use paper::Sets;
 ghost use Prim.Native.Nat.{ℕ, _+_, _-_, _*_, _≤_, _<_};
 ghost use mathlib.Core.Path.{_≡_};
-ghost use mathlib.Core.Bool.{true};
 ghost use mathlib.Core.List.{List};
 ghost use lib.ListN.{length, set};
 ghost use Rattle.paper.specs.Refusals.{longestText};
-ghost use Rattle.converter.specs.Passes.{onGround};
-ghost use Rattle.converter.specs.Passing.{Passing};
-ghost use Rattle.converter.specs.Lanes.{ifOne, copyInSeven, copyInEight, laneOf, copiedFromGL, copiedFromGR, copied, nextCopied};
+ghost use Rattle.converter.specs.Passing.{Passes};
+ghost use Rattle.converter.specs.Lanes.{ifOne, copyInSeven, copyInEight, laneOnGround, laneOf, copiedFromGL, copiedFromGR};
+ghost use Rattle.converter.specs.Lanes.{copied, nextCopied};
 
 // How a character is written: as its position byte, with bit 8 set, or not in one byte.
 enum Copy {
@@ -31,34 +30,36 @@ struct Lane {
     right: Copy,
 }
 
-fn if_one(count: Count, copy: Copy) -> Copy
-    ensures { λ r. ⌜ r ≡ ifOne count copy ⌝ }
+fn if_one(size: Size, copy: Copy) -> Copy
+    ensures { λ r. ⌜ r ≡ ifOne size copy ⌝ }
 {
-    match count {
-        Count::One => copy,
-        Count::Two => Copy::Not,
-        Count::Three => Copy::Not,
+    match size {
+        Size::Of94 => copy,
+        Size::Of96 => copy,
+        Size::TwoOf94 => Copy::Not,
+        Size::TwoOf96 => Copy::Not,
+        Size::ThreeOf94 => Copy::Not,
+        Size::ThreeOf96 => Copy::Not,
     }
 }
 
-// Of the four sets only these two are looked at: a set picked from all four would be copied with them.
-fn in_seven(sets: Sets, element: Element, gl: Element) -> Copy
-    ensures { λ r. ⌜ r ≡ copyInSeven sets element gl ⌝ }
+// The element must be the one that GL shows in the output.
+fn in_seven(state: State, element: Element) -> Copy
+    ensures { λ r. ⌜ r ≡ copyInSeven state element (state .shown) ⌝ }
 {
-    let g0 = sets.g0;
-    let g1 = sets.g1;
-    let count_of_g0 = g0.count;
-    let count_of_g1 = g1.count;
+    let shown = state.shown;
+    let g0 = state.g0;
+    let g1 = state.g1;
     match element {
-        Element::G0 => match gl {
-            Element::G0 => if_one(count_of_g0, Copy::Low),
+        Element::G0 => match shown {
+            Element::G0 => if_one(g0, Copy::Low),
             Element::G1 => Copy::Not,
             Element::G2 => Copy::Not,
             Element::G3 => Copy::Not,
         },
-        Element::G1 => match gl {
+        Element::G1 => match shown {
             Element::G0 => Copy::Not,
-            Element::G1 => if_one(count_of_g1, Copy::Low),
+            Element::G1 => if_one(g1, Copy::Low),
             Element::G2 => Copy::Not,
             Element::G3 => Copy::Not,
         },
@@ -67,35 +68,48 @@ fn in_seven(sets: Sets, element: Element, gl: Element) -> Copy
     }
 }
 
-fn in_eight(sets: Sets, element: Element) -> Copy
-    ensures { λ r. ⌜ r ≡ copyInEight sets element ⌝ }
+fn in_eight(state: State, element: Element) -> Copy
+    ensures { λ r. ⌜ r ≡ copyInEight state element ⌝ }
 {
-    let g0 = sets.g0;
-    let g1 = sets.g1;
-    let count_of_g0 = g0.count;
-    let count_of_g1 = g1.count;
+    let g0 = state.g0;
+    let g1 = state.g1;
     match element {
-        Element::G0 => if_one(count_of_g0, Copy::Low),
-        Element::G1 => if_one(count_of_g1, Copy::High),
+        Element::G0 => if_one(g0, Copy::Low),
+        Element::G1 => if_one(g1, Copy::High),
         Element::G2 => Copy::Not,
         Element::G3 => Copy::Not,
     }
 }
 
-// The lane of a writer to a form that shows an element, beside a reader on the ground in the other form.
-fn lane_of(to: Form, gl: Element, reader: Reader) -> Lane
-    ensures { λ r. ⌜ r ≡ laneOf to gl reader ⌝ }
+fn lane_on_ground(to: Form, state: State) -> Lane
+    ensures { λ r. ⌜ r ≡ laneOnGround to state ⌝ }
 {
-    let sets = reader.sets;
-    let left = reader.gl;
-    let right = reader.gr;
+    let left = state.gl;
+    let right = state.gr;
     match to {
         Form::Seven => Lane {
-            left: in_seven(sets, left, gl),
-            right: in_seven(sets, right, gl),
+            left: in_seven(state, left),
+            right: in_seven(state, right),
         },
         Form::Eight => Lane {
-            left: in_eight(sets, left),
+            left: in_eight(state, left),
+            right: Copy::Not,
+        },
+    }
+}
+
+// After a single shift there is none.
+fn lane_of(to: Form, state: State, single: Single) -> Lane
+    ensures { λ r. ⌜ r ≡ laneOf to state single ⌝ }
+{
+    match single {
+        Single::Not => lane_on_ground(to, state),
+        Single::OfG2 => Lane {
+            left: Copy::Not,
+            right: Copy::Not,
+        },
+        Single::OfG3 => Lane {
+            left: Copy::Not,
             right: Copy::Not,
         },
     }
@@ -157,27 +171,22 @@ fn next_copied(lane: Lane, text: &[u8], place: usize) -> u8
 // Copies the bytes of the lane from a place on, as far as there is room, and answers the place after them.
 pub(crate) fn copy_lane(
     to: Form,
-    gl: Element,
-    reader: Reader,
+    state: State,
+    single: Single,
     text: &[u8],
     place: usize,
     buffer: &mut [u8],
     at: usize,
 ) -> usize
-    requires { ⌜
-        (place ≤ length (now text)) ×
-        (length (now text) ≤ longestText) ×
-        (at ≤ 3 * longestText) ×
-        (onGround (reader .standing) ≡ true)
-        ⌝ }
+    requires { ⌜ (place ≤ length (now text)) × (length (now text) ≤ longestText) × (at ≤ 3 * longestText) ⌝ }
     ensures { λ r. ⌜ (place ≤ r) × (r ≤ length (now (text .entry))) ⌝ }
     ensures { λ r. ⌜
         ((lent : List ℕ) →
-        Passing to (now (text .entry)) lent reader gl at place (now (buffer .entry)) →
-        Passing to (now (text .entry)) lent reader gl (at + (r - place)) r (now (buffer .exit)))
+        Passes to (now (text .entry)) lent state single at place (now (buffer .entry)) →
+        Passes to (now (text .entry)) lent state single (at + (r - place)) r (now (buffer .exit)))
         ⌝ }
 {
-    let lane = lane_of(to, gl, reader);
+    let lane = lane_of(to, state, single);
     let mut here = place;
     let mut there = at;
     let mut copy = next_copied(lane, text, here);

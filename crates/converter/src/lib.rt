@@ -1,35 +1,33 @@
 // The two conversions over lent buffers. Each reads its text twice, by one loop that both share: first into no room, for the first
 // refusal or the length of the output; then, where the output fits, into the buffer.
-mod ahead;
+mod item;
 mod lane;
 mod piece;
+mod state;
 mod written;
 
-use ahead::next_to_read;
-use ahead::on_ground;
 use charsets::SPACE;
+use item::turn_at;
 use lane::copy_lane;
 use paper::Converted;
-use paper::Element;
-use paper::EndWord;
 use paper::Form;
-use paper::Reader;
 use paper::Refusal;
 use piece::put_if_room;
 use refusals::LONGEST_TEXT;
+use state::Single;
+use state::State;
+use state::starting;
 use written::Turn;
-use written::turn_for;
 ghost use Prim.Native.Nat.{ℕ, _+_, _-_, _*_, _≤_, _<_};
 ghost use mathlib.Core.Path.{_≡_};
-ghost use mathlib.Core.Bool.{true};
 ghost use mathlib.Core.List.{List};
 ghost use lib.ListN.{length};
 ghost use Rattle.paper.specs.Refusals.{longestText};
 ghost use Rattle.paper.specs.LentBuffers.{over};
 ghost use Rattle.paper.specs.Conversions.{refusalIn, Accepted, output, conversion, bufferAfter};
 ghost use Rattle.paper.specs.declared.Form.{Form};
-ghost use Rattle.converter.specs.Passes.{otherThan, passedBy, onGround};
-ghost use Rattle.converter.specs.Passing.{Passing};
+ghost use Rattle.converter.specs.Passes.{otherThan, passedBy, endedAt};
+ghost use Rattle.converter.specs.Passing.{Passes};
 
 // The text in 8-bit form to 7-bit form: the length of what was written, or a refusal with its place and nothing written.
 pub fn to_seven(text: &[u8], buffer: &mut [u8]) -> Converted
@@ -88,66 +86,62 @@ fn pass(to: Form, text: &[u8], buffer: &mut [u8]) -> Converted
         now (buffer .exit) ≡ over (output (otherThan to) to (now (text .entry))) (now (buffer .entry)))
         ⌝ }
 {
-    let mut reader = reader::start(other_than(to));
-    let mut gl = Element::G0;
+    let mut state = starting();
+    let mut single = Single::Not;
     let mut at: usize = 0;
     let mut place: usize = 0;
     while place < text.len() {
-        let run = copy_run(to, gl, reader, text, place, buffer, at);
+        let run = copy_run(to, state, single, text, place, buffer, at);
         at += run - place;
         place = run;
         if place >= text.len() {
-            return Converted::Done(at);
+            return ended(single, at, place);
         }
-        let next = next_to_read(reader, text, place);
-        place = next.place;
-        let given = reader::read(next.reader, text[place]);
-        let answer = given.answer;
-        reader = given.reader;
-        match turn_for(to, reader.sets, gl, answer) {
-            Turn::Writes(piece, shown) => {
+        match turn_at(to, state, single, text, place) {
+            Turn::Writes(next, taken, piece, there) => {
                 put_if_room(buffer, at, piece);
                 at += piece.count;
-                gl = shown;
-                place += 1;
+                state = next;
+                single = taken;
+                place = there;
             }
-            Turn::Stops(refusal) => return Converted::Refused(refusal, place),
+            Turn::Stops(refusal, there) => return Converted::Refused(refusal, there),
         }
     }
-    match reader::end_word(reader) {
-        EndWord::Whole => Converted::Done(at),
-        EndWord::Inside => Converted::Refused(Refusal::EndsInside, place),
-        // never here, since a refusal has returned before
-        EndWord::Lost => Converted::Done(at),
+    ended(single, at, place)
+}
+
+// At the end of the text: 7 after a single shift.
+fn ended(single: Single, at: usize, place: usize) -> Converted
+    ensures { λ r. ⌜ r ≡ endedAt single at place ⌝ }
+{
+    match single {
+        Single::Not => Converted::Done(at),
+        Single::OfG2 => Converted::Refused(Refusal::EndsInside, place),
+        Single::OfG3 => Converted::Refused(Refusal::EndsInside, place),
     }
 }
 
-// A run of the lane from a place on, where the reader is on the ground: the place after it.
+// A run of the lane from a place on: the place after it.
 fn copy_run(
     to: Form,
-    gl: Element,
-    reader: Reader,
+    state: State,
+    single: Single,
     text: &[u8],
     place: usize,
     buffer: &mut [u8],
     at: usize,
 ) -> usize
     requires { ⌜ (place < length (now text)) × (length (now text) ≤ longestText) × (at ≤ 3 * longestText) ⌝ }
-    ensures { λ r. ⌜
-        (place ≤ r) × (r ≤ length (now (text .entry))) × (place < r → onGround (reader .standing) ≡ true)
-        ⌝ }
+    ensures { λ r. ⌜ (place ≤ r) × (r ≤ length (now (text .entry))) ⌝ }
     ensures { λ r. ⌜
         ((lent : List ℕ) →
-        Passing to (now (text .entry)) lent reader gl at place (now (buffer .entry)) →
-        Passing to (now (text .entry)) lent reader gl (at + (r - place)) r (now (buffer .exit)))
+        Passes to (now (text .entry)) lent state single at place (now (buffer .entry)) →
+        Passes to (now (text .entry)) lent state single (at + (r - place)) r (now (buffer .exit)))
         ⌝ }
 {
-    let standing = reader.standing;
-    if on_ground(standing) {
-        if text[place] > SPACE {
-            return copy_lane(to, gl, reader, text, place, buffer, at);
-        }
-        return place;
+    if text[place] > SPACE {
+        return copy_lane(to, state, single, text, place, buffer, at);
     }
     place
 }

@@ -1,19 +1,21 @@
-// What is written for an answer, in either form.
+// What is written for an item that was read: the paper's two written forms, as pieces of output.
 use crate::piece::Piece;
 use crate::piece::four;
 use crate::piece::in_front;
-use crate::piece::nothing;
 use crate::piece::one;
 use crate::piece::three;
 use crate::piece::two;
-use charsets::DELETE;
-use charsets::SPACE;
+use crate::state::Single;
+use crate::state::State;
+use crate::state::kind_of;
+use crate::state::size_in;
+use crate::state::with_shown;
 use codetable::BIT_8;
 use codetable::ESC;
 use codetable::SI;
 use codetable::SO;
 use codetable::between;
-use paper::Answer;
+use escapes::SEVERAL;
 use paper::ControlElement;
 use paper::Count;
 use paper::Element;
@@ -22,28 +24,25 @@ use paper::Intermediates;
 use paper::Kind;
 use paper::PositionBytes;
 use paper::Refusal;
-use paper::Set;
-use paper::Sets;
 ghost use Prim.Native.Nat.{_≤_, _<_};
 ghost use mathlib.Core.Path.{_≡_};
 ghost use mathlib.Core.List.{map};
 ghost use Rattle.paper.specs.Sequences.{intermediateOf, intermediateOfControls};
 ghost use Rattle.paper.specs.Results.{positionValues};
-ghost use Rattle.paper.specs.WrittenForms.{sequenceBytes, takesShort, designationBytes, functionBytes, byteFrom, bytesOfAnswer};
+ghost use Rattle.paper.specs.WrittenForms.{sequenceBytes, takesShort, designationBytes, functionBytes, byteFrom, beforeCharacter};
 ghost use Rattle.paper.specs.declared.GraphicArea.{GraphicArea};
 ghost use Rattle.paper.specs.declared.Form.{Form};
-ghost use Rattle.paper.specs.declared.Answer.{Answer};
+ghost use Rattle.paper.specs.declared.Element.{Element};
 ghost use Rattle.paper.specs.declared.Intermediates.{Intermediates};
 ghost use Rattle.converter.specs.Pieces.{bytesIn};
-ghost use Rattle.converter.specs.Turns.{did, characterIn, spaceIn, turnOf};
+ghost use Rattle.converter.specs.Turns.{did, afterLocking, wroteCharacter, wroteSpace};
 
-// The intermediate that leads to sets of several bytes, those of control sets, and the short sequence's Final Bytes.
-const SEVERAL: u8 = 0x24;
-
+// The intermediates of control sets.
 const OF_C0: u8 = 0x21;
 
 const OF_C1: u8 = 0x22;
 
+// The short sequence's Final Bytes.
 const FIRST_SHORT: u8 = 0x40;
 
 const LAST_SHORT: u8 = 0x42;
@@ -51,7 +50,7 @@ const LAST_SHORT: u8 = 0x42;
 // The C1 functions are numbered 0 to 31; their finals begin at 4/0, and SS2 and SS3 are two of them.
 const FUNCTIONS: u8 = 32;
 
-const FINAL_OF_FUNCTION: u8 = 0x40;
+pub(crate) const FINAL_OF_FUNCTION: u8 = 0x40;
 
 const FINAL_OF_SS2: u8 = 0x4E;
 
@@ -61,14 +60,14 @@ const SS2: u8 = 0x8E;
 
 const SS3: u8 = 0x8F;
 
-// What an answer does: a piece to write, which may be empty, with what GL shows then; or a refusal.
+// What an item does: the state after it, a piece to write, which may be empty, and the place after it; or a refusal with its place.
 pub(crate) enum Turn {
-    Writes(Piece, Element),
-    Stops(Refusal),
+    Writes(State, Single, Piece, usize),
+    Stops(Refusal, usize),
 }
 
 // A sequence in its place.
-fn sequence(intermediates: Intermediates, last: u8) -> Piece
+pub(crate) fn sequence(intermediates: Intermediates, last: u8) -> Piece
     ensures { λ r. ⌜ bytesIn r ≡ sequenceBytes intermediates last ⌝ }
 {
     match intermediates {
@@ -109,12 +108,9 @@ fn takes_short(element: Element, last: u8) -> bool
     }
 }
 
-fn designation(element: Element, set: Set) -> Piece
-    ensures { λ r. ⌜ bytesIn r ≡ designationBytes element set ⌝ }
+pub(crate) fn designation(element: Element, kind: Kind, count: Count, last: u8) -> Piece
+    ensures { λ r. ⌜ bytesIn r ≡ designationBytes element (record { kind = kind; count = count; last = last }) ⌝ }
 {
-    let kind = set.kind;
-    let count = set.count;
-    let last = set.last;
     let intermediate = intermediate_of(kind, element);
     match count {
         Count::One => three(ESC, intermediate, last),
@@ -130,12 +126,21 @@ fn designation(element: Element, set: Set) -> Piece
 }
 
 // A C1 function: ESC Fe in 7-bit form, its byte in 8-bit form.
-fn function(to: Form, number: u8) -> Piece
+pub(crate) fn function(to: Form, number: u8) -> Piece
     ensures { λ r. ⌜ bytesIn r ≡ functionBytes to number ⌝ }
 {
     match to {
         Form::Seven => two(ESC, FINAL_OF_FUNCTION + number % FUNCTIONS),
         Form::Eight => one(BIT_8 + number % FUNCTIONS),
+    }
+}
+
+pub(crate) fn controls(element: ControlElement, last: u8) -> Piece
+    ensures { λ r. ⌜ bytesIn r ≡ sequenceBytes (Intermediates.One (intermediateOfControls element)) last ⌝ }
+{
+    match element {
+        ControlElement::C0 => three(ESC, OF_C0, last),
+        ControlElement::C1 => three(ESC, OF_C1, last),
     }
 }
 
@@ -166,101 +171,104 @@ fn of_gr(bytes: PositionBytes) -> Piece
     }
 }
 
-// 7-bit: SI or SO first where GL shows another element; SS2 or SS3.
-fn in_seven(element: Element, gl: Element, bytes: PositionBytes) -> Turn
-    ensures { λ r. ⌜ did r ≡ characterIn Form.Seven element gl bytes ⌝ }
+// 7-bit: SI or SO first where GL shows another element.
+fn of_g0(state: State, piece: Piece, place: usize) -> Turn
+    requires { ⌜ (piece .count ≤ 3) × (piece .bytes < 0x1000000) ⌝ }
+    ensures { λ r. ⌜ did r ≡ afterLocking (beforeCharacter Element.G0 (state .shown)) state (bytesIn piece) place ⌝ }
+{
+    let shown = state.shown;
+    let front = in_front(SI, piece);
+    match shown {
+        Element::G0 => Turn::Writes(state, Single::Not, piece, place),
+        Element::G1 => Turn::Writes(with_shown(state, Element::G0), Single::Not, front, place),
+        Element::G2 => Turn::Writes(with_shown(state, Element::G0), Single::Not, front, place),
+        Element::G3 => Turn::Writes(with_shown(state, Element::G0), Single::Not, front, place),
+    }
+}
+
+fn of_g1(state: State, piece: Piece, place: usize) -> Turn
+    requires { ⌜ (piece .count ≤ 3) × (piece .bytes < 0x1000000) ⌝ }
+    ensures { λ r. ⌜ did r ≡ afterLocking (beforeCharacter Element.G1 (state .shown)) state (bytesIn piece) place ⌝ }
+{
+    let shown = state.shown;
+    let front = in_front(SO, piece);
+    match shown {
+        Element::G0 => Turn::Writes(with_shown(state, Element::G1), Single::Not, front, place),
+        Element::G1 => Turn::Writes(state, Single::Not, piece, place),
+        Element::G2 => Turn::Writes(with_shown(state, Element::G1), Single::Not, front, place),
+        Element::G3 => Turn::Writes(with_shown(state, Element::G1), Single::Not, front, place),
+    }
+}
+
+// SS2 or SS3 before a character of G2 or G3.
+fn in_seven(state: State, element: Element, bytes: PositionBytes, place: usize) -> Turn
+    ensures { λ r. ⌜ did r ≡ wroteCharacter Form.Seven state element bytes place ⌝ }
 {
     let piece = of_gl(bytes);
     match element {
-        Element::G0 => match gl {
-            Element::G0 => Turn::Writes(piece, Element::G0),
-            Element::G1 => Turn::Writes(in_front(SI, piece), Element::G0),
-            Element::G2 => Turn::Writes(in_front(SI, piece), Element::G0),
-            Element::G3 => Turn::Writes(in_front(SI, piece), Element::G0),
-        },
-        Element::G1 => match gl {
-            Element::G0 => Turn::Writes(in_front(SO, piece), Element::G1),
-            Element::G1 => Turn::Writes(piece, Element::G1),
-            Element::G2 => Turn::Writes(in_front(SO, piece), Element::G1),
-            Element::G3 => Turn::Writes(in_front(SO, piece), Element::G1),
-        },
-        Element::G2 => Turn::Writes(in_front(ESC, in_front(FINAL_OF_SS2, piece)), gl),
-        Element::G3 => Turn::Writes(in_front(ESC, in_front(FINAL_OF_SS3, piece)), gl),
+        Element::G0 => of_g0(state, piece, place),
+        Element::G1 => of_g1(state, piece, place),
+        Element::G2 => Turn::Writes(
+            state,
+            Single::Not,
+            in_front(ESC, in_front(FINAL_OF_SS2, piece)),
+            place,
+        ),
+        Element::G3 => Turn::Writes(
+            state,
+            Single::Not,
+            in_front(ESC, in_front(FINAL_OF_SS3, piece)),
+            place,
+        ),
     }
 }
 
 // 8-bit: no locking shift.
-fn in_eight(element: Element, gl: Element, bytes: PositionBytes) -> Turn
-    ensures { λ r. ⌜ did r ≡ characterIn Form.Eight element gl bytes ⌝ }
+fn in_eight(state: State, element: Element, bytes: PositionBytes, place: usize) -> Turn
+    ensures { λ r. ⌜ did r ≡ wroteCharacter Form.Eight state element bytes place ⌝ }
 {
     match element {
-        Element::G0 => Turn::Writes(of_gl(bytes), gl),
-        Element::G1 => Turn::Writes(of_gr(bytes), gl),
-        Element::G2 => Turn::Writes(in_front(SS2, of_gl(bytes)), gl),
-        Element::G3 => Turn::Writes(in_front(SS3, of_gl(bytes)), gl),
+        Element::G0 => Turn::Writes(state, Single::Not, of_gl(bytes), place),
+        Element::G1 => Turn::Writes(state, Single::Not, of_gr(bytes), place),
+        Element::G2 => Turn::Writes(state, Single::Not, in_front(SS2, of_gl(bytes)), place),
+        Element::G3 => Turn::Writes(state, Single::Not, in_front(SS3, of_gl(bytes)), place),
     }
 }
 
-fn character(to: Form, element: Element, gl: Element, bytes: PositionBytes) -> Turn
-    ensures { λ r. ⌜ did r ≡ characterIn to element gl bytes ⌝ }
+// A character of an element.
+pub(crate) fn character(
+    to: Form,
+    state: State,
+    element: Element,
+    bytes: PositionBytes,
+    place: usize,
+) -> Turn
+    ensures { λ r. ⌜ did r ≡ wroteCharacter to state element bytes place ⌝ }
 {
     match to {
-        Form::Seven => in_seven(element, gl, bytes),
-        Form::Eight => in_eight(element, gl, bytes),
+        Form::Seven => in_seven(state, element, bytes, place),
+        Form::Eight => in_eight(state, element, bytes, place),
     }
 }
 
 // SPACE or DELETE: in 7-bit form SI first exactly where GL shows a 96-type set.
-fn space_or_delete(to: Form, sets: Sets, gl: Element, byte: u8) -> Turn
-    ensures { λ r. ⌜ did r ≡ spaceIn to sets gl byte ⌝ }
+pub(crate) fn space_or_delete(to: Form, state: State, byte: u8, place: usize) -> Turn
+    ensures { λ r. ⌜ did r ≡ wroteSpace to state byte place ⌝ }
 {
     match to {
         Form::Seven => {
-            let set = charsets::set_in(sets, gl);
-            let kind = set.kind;
-            match kind {
-                Kind::Of94 => Turn::Writes(one(byte), gl),
-                Kind::Of96 => Turn::Writes(two(SI, byte), Element::G0),
+            let shown = state.shown;
+            let size = size_in(state, shown);
+            match kind_of(size) {
+                Kind::Of94 => Turn::Writes(state, Single::Not, one(byte), place),
+                Kind::Of96 => Turn::Writes(
+                    with_shown(state, Element::G0),
+                    Single::Not,
+                    two(SI, byte),
+                    place,
+                ),
             }
         }
-        Form::Eight => Turn::Writes(one(byte), gl),
-    }
-}
-
-fn control(to: Form, element: ControlElement, number: u8) -> Piece
-    ensures { λ r. ⌜ bytesIn r ≡ bytesOfAnswer to (Answer.Control element number number) ⌝ }
-{
-    match element {
-        ControlElement::C0 => one(number),
-        ControlElement::C1 => function(to, number),
-    }
-}
-
-fn controls(element: ControlElement, last: u8) -> Piece
-    ensures { λ r. ⌜ bytesIn r ≡ sequenceBytes (Intermediates.One (intermediateOfControls element)) last ⌝ }
-{
-    match element {
-        ControlElement::C0 => three(ESC, OF_C0, last),
-        ControlElement::C1 => three(ESC, OF_C1, last),
-    }
-}
-
-// What an answer does to a writer in a form, with these sets and this element in GL.
-pub(crate) fn turn_for(to: Form, sets: Sets, gl: Element, answer: Answer) -> Turn
-    ensures { λ r. ⌜ did r ≡ turnOf to (record { sets = sets; gl = gl }) answer ⌝ }
-{
-    match answer {
-        Answer::NothingYet => Turn::Writes(nothing(), gl),
-        Answer::Char(element, _, bytes) => character(to, element, gl, bytes),
-        Answer::Space => space_or_delete(to, sets, gl, SPACE),
-        Answer::Delete => space_or_delete(to, sets, gl, DELETE),
-        Answer::Control(element, _, number) => Turn::Writes(control(to, element, number), gl),
-        Answer::DesignateControls(element, last) => Turn::Writes(controls(element, last), gl),
-        Answer::Designate(element, set) => Turn::Writes(designation(element, set), gl),
-        Answer::Shift(_) => Turn::Writes(nothing(), gl),
-        Answer::Other(intermediates, last) => Turn::Writes(sequence(intermediates, last), gl),
-        Answer::Refused(refusal) => Turn::Stops(refusal),
-        Answer::Skipped => Turn::Writes(nothing(), gl),
-        Answer::InStep(_) => Turn::Writes(nothing(), gl),
+        Form::Eight => Turn::Writes(state, Single::Not, one(byte), place),
     }
 }

@@ -4,7 +4,7 @@ use mathlib.Core.Path.{_≡_, subst}
 use native.Mathlib.Omega.{arith}
 use borrow.Author.Needs.{needs}
 use lib.ListN.{length}
-use Rattle.converter.specs.Passing.{Passing}
+use Rattle.converter.specs.Passing.{Passes}
 use Rattle.converter.proofs.RunsOfTheLane.{Running, running-starts, still-inside, running-goes-on}
 use Rattle.converter.proofs.lane.copy_lane.Statement.{statement}
 use Rattle.converter.proofs.lane.copy_lane.Tie as tie
@@ -48,13 +48,12 @@ same-length c = c .before .loop .inv .as-long
 returns : tie.Need-returns Inv-loop μ-loop
 returns c =
     let l = c .before .loop in
-    let start = c .before .before .before .before .before .before in
-    let s = start .args in
-    let here = l .inv .passing (s .to) (s .gl) (s .reader) in (
+    let s = c .before .before .before .before .before .before .args in
+    let here = l .inv .passing (s .to) (s .state) (s .single) in (
       (l .inv .from, l .inv .within),
       λ lent p.
-          subst (λ (n : ℕ). Passing (s .to) (s .text .now) lent (s .reader) (s .gl) n (l .here) (l .buffer)) (l .inv .so-many)
-          (here lent (c .before .before .before .lane-of .ensures) (start .pre .3) p),
+          subst (λ (n : ℕ). Passes (s .to) (s .text .now) lent (s .state) (s .single) n (l .here) (l .buffer)) (l .inv .so-many)
+          (here lent (c .before .before .before .lane-of .ensures) p),
     )
 
 pub copy-lane-spec : {M : Type 1} → statement M

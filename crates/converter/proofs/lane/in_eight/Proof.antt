@@ -1,4 +1,4 @@
--- An arm for each element, where `if_one` answers for its count.
+-- An arm for each element, where `if_one` answers for its size.
 use borrow.Author.Needs.{needs}
 use Rattle.converter.proofs.lane.in_eight.Statement.{statement}
 use Rattle.converter.proofs.lane.in_eight.Tie as tie

@@ -1,4 +1,4 @@
--- An arm for each element and what GL shows, where `if_one` answers for the count.
+-- An arm for each element and what GL shows, where `if_one` answers for the size.
 use borrow.Author.Needs.{needs}
 use Rattle.converter.proofs.lane.in_seven.Statement.{statement}
 use Rattle.converter.proofs.lane.in_seven.Tie as tie

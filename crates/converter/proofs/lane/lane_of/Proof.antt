@@ -1,4 +1,4 @@
--- An arm for each form, of what `in_seven` and `in_eight` answer.
+-- On the ground what `lane_on_ground` answers, and nothing after a single shift.
 use borrow.Author.Needs.{needs}
 use Rattle.converter.proofs.lane.lane_of.Statement.{statement}
 use Rattle.converter.proofs.lane.lane_of.Tie as tie
@@ -9,8 +9,8 @@ lane-of-spec =
     (tie.spec
     (λ c. search needs)
     (λ c κs. search needs)
-    (λ c κs. search needs)
     (λ c. search needs)
-    (λ c κs. search needs)
-    (λ c. simp (c .before .before .enum-told .given .1, c .before .in-seven .ensures, c .in-seven2 .ensures))
-    (λ c. simp (c .before .enum-told2 .given .1, c .in-eight .ensures)))
+    (λ c. search needs)
+    (λ c. simp (c .before .enum-told .given .1, c .lane-on-ground .ensures))
+    (λ c. simp (c .enum-told2 .given .1))
+    (λ c. simp (c .enum-told3 .given .1)))

@@ -1,0 +1,20 @@
+-- An arm for each clause of `blankAt`.
+use borrow.Author.Needs.{needs}
+use Rattle.converter.proofs.item.blank.Statement.{statement}
+use Rattle.converter.proofs.item.blank.Tie as tie
+
+pub blank-spec : {M : Type 1} → statement M
+blank-spec =
+    tie.close
+    (tie.spec
+    (λ c. search needs)
+    (λ c. search needs)
+    (λ c. search needs)
+    (λ c κs. search needs)
+    (λ c. search needs)
+    (λ c. search needs)
+    (λ c. search needs)
+    (λ c. simp (c .before .before .before .enum-told .given .1, c .before .enum-told2 .given .1, c .space-or-delete .ensures))
+    (λ c. simp (c .before .before .enum-told .given .1, c .enum-told3 .given .1))
+    (λ c. simp (c .enum-told4 .given .1))
+    (λ c. simp (c .enum-told5 .given .1)))
