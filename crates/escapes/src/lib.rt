@@ -24,14 +24,26 @@ const FIRST_FINAL: u8 = 0x30;
 pub const LAST_FINAL: u8 = 0x7E;
 
 // The C1 functions are numbered 0 to 31; two of them are the single shifts.
-const LAST_FUNCTION: u8 = 31;
+pub const LAST_FUNCTION: u8 = 31;
 
-const SINGLE_SHIFT_TWO: u8 = 14;
+pub const SINGLE_SHIFT_TWO: u8 = 14;
 
-const SINGLE_SHIFT_THREE: u8 = 15;
+pub const SINGLE_SHIFT_THREE: u8 = 15;
 
-// The intermediate that leads to sets of several bytes.
+// The final of the C1 function 0.
+pub const FINAL_OF_FUNCTION: u8 = 0x40;
+
+// The intermediates of control sets, and the one that leads to sets of several bytes.
+pub const OF_C0: u8 = 0x21;
+
+pub const OF_C1: u8 = 0x22;
+
 pub const SEVERAL: u8 = 0x24;
+
+// The Final Bytes that take the short sequence.
+pub const FIRST_SHORT: u8 = 0x40;
+
+pub const LAST_SHORT: u8 = 0x42;
 
 // What a byte is inside a sequence: the sequence goes on with it, ends with it, or the byte may not stand there.
 pub fn sequence_byte(byte: u8) -> SequenceByte
@@ -94,8 +106,8 @@ fn meaning_of_none(form: Form, last: u8) -> Meaning
     if between(FIRST_FINAL, 0x3F, last) {
         return Meaning::Other;
     }
-    if between(0x40, 0x5F, last) {
-        return c1_function(last - 0x40);
+    if between(FINAL_OF_FUNCTION, 0x5F, last) {
+        return c1_function(last - FINAL_OF_FUNCTION);
     }
     if between(0x60, LAST_FINAL, last) {
         return shift_or_other(form, last);
@@ -123,7 +135,7 @@ fn designate_by(intermediate: u8, count: Count) -> Meaning
 fn short_designation(last: u8) -> Meaning
     ensures { λ r. ⌜ r ≡ shortDesignation last ⌝ }
 {
-    if between(0x40, 0x42, last) {
+    if between(FIRST_SHORT, LAST_SHORT, last) {
         Meaning::Designate(Element::G0, Kind::Of94, Count::Two)
     } else {
         Meaning::NoMeaning
@@ -138,8 +150,8 @@ fn by_intermediate(first: u8, last: u8) -> Meaning
         0x20 => Meaning::Other,
         0x23 => Meaning::Other,
         0x26 => Meaning::Other,
-        0x21 => Meaning::DesignateControls(ControlElement::C0),
-        0x22 => Meaning::DesignateControls(ControlElement::C1),
+        OF_C0 => Meaning::DesignateControls(ControlElement::C0),
+        OF_C1 => Meaning::DesignateControls(ControlElement::C1),
         SEVERAL => short_designation(last),
         _ => designate_by(first, Count::One),
     }
