@@ -23,7 +23,7 @@ use Rattle.paper.specs.WrittenForms.{leftOut, sequenceIn, setsWith}
 use Rattle.paper.proofs.Choices.{impossible, gives-has, gives-by}
 use Rattle.paper.proofs.TableOfSequences.{Lasts, Rows, every-meaning}
 use Rattle.paper.proofs.LawfulAnswers.{IsInStep}
-use Rattle.paper.proofs.WrittenTurnByTurn.{goes-on, sets-by-the-answer}
+use Rattle.paper.proofs.WrittenTurnByTurn.{later-refuse-nothing, sets-by-the-answer}
 use Rattle.paper.proofs.WhatCanBeWritten.{AllOfSet, AllIntermediate, MayHave, CanBeWritten, AllCanBeWritten}
 use Rattle.paper.proofs.WhatCanBeWritten.{SoFar, Stands, NotRefused}
 use Rattle.paper.proofs.OtherInAnyForm.{other-in-any-form}
@@ -238,4 +238,4 @@ can-be-written (b ∷ bs) r at h never =
     joins a (r .sets) (sequenceIn (answersFrom (suc at) next bs)) (fair .0)
     (subst (λ (t : Sets). AllCanBeWritten t (sequenceIn (answersFrom (suc at) next bs)))
     (sets-by-the-answer r b (stands-in-step (r .sets) (r .standing) h))
-    (can-be-written bs next (suc at) (fair .1) (goes-on a at later [] never .0)))
+    (can-be-written bs next (suc at) (fair .1) (later-refuse-nothing a at later never)))

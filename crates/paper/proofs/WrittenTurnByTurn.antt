@@ -1,9 +1,8 @@
--- Writing turn by turn, an answer at a time, is writing the sequence: nothing is written of the answers that the sequence leaves out,
--- and they leave the writer as it was. All along the writer has the reader's sets, since what an answer does to these is said by the
--- answer itself.
+-- What is written for a text is written answer by answer: nothing for the answers that the sequence leaves out, which leave the writer
+-- as it was. All along the writer has the reader's sets, since what an answer does to these is said by the answer itself.
 use Prim.Native.Nat.{ℕ, suc, _-_}
-use mathlib.Core.Path.{_≡_, refl, sym, ap, _∙_}
-use mathlib.Core.List.{List, [], _∷_, _++_}
+use mathlib.Core.Path.{_≡_, refl}
+use mathlib.Core.List.{List, _∷_, _++_}
 use lib.Dec.{ltb, eqb}
 use Rattle.paper.specs.Choice.{_gives_or_}
 use Rattle.paper.specs.Words.{Form, Seven, Eight, Area, Element, Set, SetByte, OfSpace, OfDelete, OfSet, Outside}
@@ -16,33 +15,12 @@ use Rattle.paper.specs.Sequences.{sequenceByte, c1Function, meaningOf}
 use Rattle.paper.specs.Characters.{c0Byte, positionIn, byteIn, bytesSoFar, withByte, character, ofCharacter, firstInGL}
 use Rattle.paper.specs.Answering.{means, intermediate, sequenceAt, groundAt, answerWithin, answerInStep, answerStanding, answerTo}
 use Rattle.paper.specs.Texts.{answersFrom}
-use Rattle.paper.specs.Surveying.{firstRefusal, refusalOr}
+use Rattle.paper.specs.Surveying.{refusalOr}
 use Rattle.paper.specs.WrittenForms.{leftOut, sequenceIn, Writer, writtenFor, setsWith, writerAfter, writtenFrom}
 use Rattle.paper.proofs.Choices.{impossible, gives-has}
 use Rattle.paper.proofs.LawfulAnswers.{IsInStep}
 
 -- ---- a turn
-
--- nothing more is written from the first refusal on
-abbrev pub unlessRefused : Answer → List ℕ → List ℕ
-unlessRefused Answer.NothingYet more = more
-unlessRefused (Answer.Char e x p) more = more
-unlessRefused Answer.Space more = more
-unlessRefused Answer.Delete more = more
-unlessRefused (Answer.Control w f n) more = more
-unlessRefused (Answer.DesignateControls w f) more = more
-unlessRefused (Answer.Designate e x) more = more
-unlessRefused (Answer.Shift h) more = more
-unlessRefused (Answer.Other s f) more = more
-unlessRefused (Answer.Refused r) more = []
-unlessRefused Answer.Skipped more = more
-unlessRefused (Answer.InStep n) more = more
-
-abbrev pub turnByTurn : Form → Writer → Reader → List ℕ → List ℕ
-turnByTurn to w r [] = []
-turnByTurn to w r (b ∷ bs) =
-    let a = answerTo r b .answer in
-    writtenFor to w a ++ unlessRefused a (turnByTurn to (writerAfter to w a) (answerTo r b .reader) bs)
 
 -- an answer joins the sequence or is left out; either way its bytes come first
 turn-of : (a : Answer) (to : Form) (w : Writer) (l : List Answer) →
@@ -69,41 +47,20 @@ pub one-turn : (to : Form) (w : Writer) (at : ℕ) (r : Reader) (b : ℕ) (bs : 
     writtenFor to w a ++ writtenFrom to (writerAfter to w a) (sequenceIn (answersFrom (suc at) (answerTo r b .reader) bs))
 one-turn to w at r b bs = turn-of (answerTo r b .answer) to w (sequenceIn (answersFrom (suc at) (answerTo r b .reader) bs))
 
--- ---- all turns
-
--- the sequence does not depend on where the text is
-pub sequence-anywhere : (l : List ℕ) (r : Reader) (at there : ℕ) → sequenceIn (answersFrom at r l) ≡ sequenceIn (answersFrom there r l)
-sequence-anywhere [] r at there = refl
-sequence-anywhere (b ∷ bs) r at there =
-    let a = answerTo r b .answer in
-    ap (λ (l : List Answer). leftOut a gives l or a ∷ l) (sequence-anywhere bs (answerTo r b .reader) (suc at) (suc there))
-
--- where this answer and those after it refuse nothing, those after it do not, and what follows is written
-pub goes-on : (a : Answer) (at : ℕ) (later : FirstRefusal) (more : List ℕ) → refusalOr later at a ≡ Never →
-    (later ≡ Never) × (unlessRefused a more ≡ more)
-goes-on Answer.NothingYet at later more h = (h, refl)
-goes-on (Answer.Char e x p) at later more h = (h, refl)
-goes-on Answer.Space at later more h = (h, refl)
-goes-on Answer.Delete at later more h = (h, refl)
-goes-on (Answer.Control w f n) at later more h = (h, refl)
-goes-on (Answer.DesignateControls w f) at later more h = (h, refl)
-goes-on (Answer.Designate e x) at later more h = (h, refl)
-goes-on (Answer.Shift s) at later more h = (h, refl)
-goes-on (Answer.Other s f) at later more h = (h, refl)
-goes-on (Answer.Refused n) at later more h = impossible (cc)
-goes-on Answer.Skipped at later more h = (h, refl)
-goes-on (Answer.InStep n) at later more h = (h, refl)
-
-pub written-turn-by-turn : (to : Form) (l : List ℕ) (w : Writer) (r : Reader) (at : ℕ) → firstRefusal (answersFrom at r l) ≡ Never →
-    turnByTurn to w r l ≡ writtenFrom to w (sequenceIn (answersFrom at r l))
-written-turn-by-turn to [] w r at h = refl
-written-turn-by-turn to (b ∷ bs) w r at h =
-    let a = answerTo r b .answer in
-    let next : Reader = answerTo r b .reader in
-    let on = goes-on a at (firstRefusal (answersFrom (suc at) next bs)) (turnByTurn to (writerAfter to w a) next bs) h in
-    ap (λ (more : List ℕ). writtenFor to w a ++ more)
-    (on .1 ∙ written-turn-by-turn to bs (writerAfter to w a) next (suc at) (on .0)) ∙
-    sym (one-turn to w at r b bs)
+-- where this answer and those after it refuse nothing, those after it do not
+pub later-refuse-nothing : (a : Answer) (at : ℕ) (later : FirstRefusal) → refusalOr later at a ≡ Never → later ≡ Never
+later-refuse-nothing Answer.NothingYet at later h = h
+later-refuse-nothing (Answer.Char e x p) at later h = h
+later-refuse-nothing Answer.Space at later h = h
+later-refuse-nothing Answer.Delete at later h = h
+later-refuse-nothing (Answer.Control w f n) at later h = h
+later-refuse-nothing (Answer.DesignateControls w f) at later h = h
+later-refuse-nothing (Answer.Designate e x) at later h = h
+later-refuse-nothing (Answer.Shift s) at later h = h
+later-refuse-nothing (Answer.Other s f) at later h = h
+later-refuse-nothing (Answer.Refused n) at later h = impossible (cc)
+later-refuse-nothing Answer.Skipped at later h = h
+later-refuse-nothing (Answer.InStep n) at later h = h
 
 -- ---- the writer's sets are the reader's
 
@@ -167,7 +124,7 @@ module _ (r : Reader) (b : ℕ) where
       let x = setIn (r .sets) e in told-of (byteIn a (x .kind) b) e x a (withByte p (positionIn a b))
 
   -- refusals too leave the sets
-  pub in-step-told : (w : Within) → Told (answerInStep w b r)
+  in-step-told : (w : Within) → Told (answerInStep w b r)
   unfolding answerInStep
   in-step-told w = gives-has Told (formHas (r .form) b) (told-within w) refl
 
@@ -178,9 +135,3 @@ module _ (r : Reader) (b : ℕ) where
   pub sets-by-the-answer : IsInStep (r .standing) → answerTo r b .reader .sets ≡ setsWith (r .sets) (answerTo r b .answer)
   unfolding answerTo
   sets-by-the-answer h = told-standing (r .standing) h
-
--- so a writer that has the reader's sets before a byte has them after it
-pub same-sets-on : (to : Form) (w : Writer) (r : Reader) (b : ℕ) → IsInStep (r .standing) → w .sets ≡ r .sets →
-    writerAfter to w (answerTo r b .answer) .sets ≡ answerTo r b .reader .sets
-same-sets-on to w r b h same =
-    ap (λ t. setsWith t (answerTo r b .answer)) same ∙ sym (sets-by-the-answer r b h)
