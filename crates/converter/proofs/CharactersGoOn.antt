@@ -1,16 +1,15 @@
 -- A character that is read whole: its bytes but the last are answered with nothing yet, and the last with the character.
-use Prim.Native.Nat.{ℕ, _+_, _%_, _≤_, _<_}
+use Prim.Native.Nat.{ℕ, _+_, _<_}
 use mathlib.Core.Path.{_≡_, refl, sym, ap, _∙_, subst}
 use mathlib.Core.Bool.{Bool, true, false}
-use mathlib.Core.List.{List, _∷_, []}
-use native.Mathlib.Omega.{arith}
-use borrow.Author.Tests.{leb-true, leb-false, eqb-true}
-use lib.Dec.{ltb, leb, eqb}
+use mathlib.Core.List.{List}
+use borrow.Author.Tests.{leb-true, leb-false}
+use lib.Dec.{ltb, leb}
 use lib.ListN.{length, getD}
-use Rattle.paper.specs.Choice.{_gives_or_, between}
-use Rattle.paper.specs.CodeTable.{formHas, bit8}
-use Rattle.paper.specs.Sets.{space, delete, bytesOf, setIn, setByte}
-use Rattle.paper.specs.Characters.{says, waits, refuses, positionIn, byteIn, bytesSoFar, withByte, character, ofCharacter}
+use Rattle.paper.specs.Choice.{_gives_or_}
+use Rattle.paper.specs.CodeTable.{formHas}
+use Rattle.paper.specs.Sets.{space, delete, bytesOf, setIn}
+use Rattle.paper.specs.Characters.{says, waits, positionIn, byteIn, bytesSoFar, withByte, character, ofCharacter}
 use Rattle.paper.specs.Answering.{answerTo}
 use Rattle.paper.specs.WrittenForms.{Locking, none, shiftIn, shiftOut, glWith, beforeCharacter, beforeSpace, writtenFor, writerAfter}
 use Rattle.paper.specs.Conversions.{refusalIn}
@@ -28,18 +27,14 @@ use Rattle.paper.specs.declared.Within.{Within}
 use Rattle.paper.specs.declared.Reader.{Reader}
 use Rattle.paper.specs.declared.Refusal.{Refusal}
 use Rattle.paper.specs.declared.Answer.{Answer}
-use Rattle.paper.specs.declared.FirstRefusal.{FirstRefusal}
 use Rattle.paper.specs.declared.FirstRefusal.the-variants.{First}
 use Rattle.paper.proofs.Choices.{impossible, gives-by}
 use Rattle.converter.specs.Passes.{otherThan}
 use Rattle.converter.specs.Passing.{beside}
 use Rattle.converter.specs.States.{sizeOf, kindOf, countOf, sizeOfSet, stateOf, sizeIn, locked}
-use Rattle.converter.specs.Turns.{Did, writes, stops, wroteCharacter, wroteSpace}
-use Rattle.converter.specs.Items.{ofSet, laterAt, secondOfTwo, lastOfThree, thirdOfThree, secondOfThree, ofTwo, ofThree, byCount}
-use Rattle.converter.specs.Items.{bytesAt, wroteTaken, wholeAt}
+use Rattle.converter.specs.Turns.{Did, writes, wroteCharacter, wroteSpace}
+use Rattle.converter.specs.Items.{ofSet, laterAt, secondOfTwo, lastOfThree, secondOfThree, byCount, wroteTaken, characterAt}
 use Rattle.converter.specs.declared.item.Found.{Found}
-use Rattle.converter.specs.declared.item.Taken.{Taken}
-use Rattle.converter.specs.declared.state.Size.{Size}
 use Rattle.converter.specs.declared.state.Single.{Single}
 use Rattle.converter.specs.declared.state.State.{State}
 use Rattle.converter.proofs.ItemsByBytes.{here, IsGood, At, in-form-here, not-in-form, waits-on, ends-well, stops-at}
@@ -48,7 +43,7 @@ use Rattle.converter.proofs.PassGoesOn.{NoRefusal}
 
 -- ---- sizes
 
-pub kind-kept : (k : Kind) (n : Count) → kindOf (sizeOf k n) ≡ k
+kind-kept : (k : Kind) (n : Count) → kindOf (sizeOf k n) ≡ k
 kind-kept Of94 Count.One = refl
 kind-kept Of94 Count.Two = refl
 kind-kept Of94 Count.Three = refl
@@ -56,7 +51,7 @@ kind-kept Of96 Count.One = refl
 kind-kept Of96 Count.Two = refl
 kind-kept Of96 Count.Three = refl
 
-pub count-kept : (k : Kind) (n : Count) → countOf (sizeOf k n) ≡ n
+count-kept : (k : Kind) (n : Count) → countOf (sizeOf k n) ≡ n
 count-kept Of94 Count.One = refl
 count-kept Of94 Count.Two = refl
 count-kept Of94 Count.Three = refl
@@ -64,7 +59,7 @@ count-kept Of96 Count.One = refl
 count-kept Of96 Count.Two = refl
 count-kept Of96 Count.Three = refl
 
-pub size-in : (r : Reader) (shown e : Element) → sizeIn (stateOf r shown) e ≡ sizeOfSet (setIn (r .sets) e)
+size-in : (r : Reader) (shown e : Element) → sizeIn (stateOf r shown) e ≡ sizeOfSet (setIn (r .sets) e)
 size-in r shown Element.G0 = refl
 size-in r shown Element.G1 = refl
 size-in r shown Element.G2 = refl
@@ -73,12 +68,12 @@ size-in r shown Element.G3 = refl
 pub kind-in : (r : Reader) (shown e : Element) → kindOf (sizeIn (stateOf r shown) e) ≡ setIn (r .sets) e .kind
 kind-in r shown e = ap kindOf (size-in r shown e) ∙ kind-kept (setIn (r .sets) e .kind) (setIn (r .sets) e .count)
 
-pub count-in : (r : Reader) (shown e : Element) → countOf (sizeIn (stateOf r shown) e) ≡ setIn (r .sets) e .count
+count-in : (r : Reader) (shown e : Element) → countOf (sizeIn (stateOf r shown) e) ≡ setIn (r .sets) e .count
 count-in r shown e = ap countOf (size-in r shown e) ∙ count-kept (setIn (r .sets) e .kind) (setIn (r .sets) e .count)
 
 -- ---- what is written for an answer
 
--- bytes as the paper writes them, and the state beside the reader and the writer then
+-- the bytes are those that the paper writes for the answer, and the state is that of the reader and of the writer after it
 pub record WritesAnswer (to : Form) (r : Reader) (shown : Element) (a : Answer) (d : Did) (place : ℕ) : Type 0 where
   pub state : State
   pub has : state ≡ stateOf r (writerAfter to (beside r shown) a .gl)
@@ -253,7 +248,7 @@ module _ (to : Form) (text lent : List ℕ) (t : Sets) (gl gr shown : Element) (
   -- a character from its first byte on
   pub whole-right : {w : Within} {place : ℕ} → Came w place → place < length text → (e : Element) (a : GraphicArea) (b : ℕ) →
       answerTo (reader w) (getD text place 0) ≡ character e (set e) a (PositionBytes.One (positionIn a b)) (reader w) →
-      Right (wholeAt to state e (sizeIn state e) a b text place)
+      Right (characterAt to state e (sizeIn state e) a b text place)
   whole-right {w} {place} p below e a b is =
       subst (λ (n : Count). Right (wroteTaken (byCount n to (kindOf (sizeIn state e)) a (positionIn a b) text place) to state e))
       (sym (count-in ground shown e))

@@ -2,13 +2,13 @@
 use Prim.Native.Nat.{ℕ, _+_, _-_, _/_, _≤_, _<_}
 use mathlib.Core.Path.{_≡_, refl, sym, ap, _∙_, subst}
 use mathlib.Core.Bool.{true, false}
-use mathlib.Core.List.{List, _∷_, []}
+use mathlib.Core.List.{List}
 use native.Mathlib.Omega.{arith}
-use borrow.Author.Tests.{leb-true, leb-false, le-leb, lt-leb, ne-eqb}
+use borrow.Author.Tests.{leb-true, leb-false, le-leb, ne-eqb}
 use lib.Dec.{leb, eqb}
 use lib.ListN.{length, getD}
 use Rattle.paper.specs.CodeTable.{positionOf, columnArea, areaOf, formHas, lastOfC0, lastOfGL, lastOfC1, bit8, so, si, esc}
-use Rattle.paper.specs.Sequences.{meaningOf, meaningOfNone, c1Function, finalOfFunction, lastFunction, functionOfSS2, functionOfSS3}
+use Rattle.paper.specs.Sequences.{meaningOfNone, c1Function, finalOfFunction, lastFunction, functionOfSS2, functionOfSS3}
 use Rattle.paper.specs.Characters.{waits, shifts, says, c0Byte}
 use Rattle.paper.specs.Answering.{answerTo, groundAt, means}
 use Rattle.paper.specs.declared.Area.{Area}
@@ -22,7 +22,6 @@ use Rattle.paper.specs.declared.Meaning.{Meaning}
 use Rattle.paper.specs.declared.Within.{Within}
 use Rattle.paper.specs.declared.Reader.{Reader}
 use Rattle.paper.specs.declared.Answer.{Answer}
-use Rattle.paper.specs.declared.Answered.{Answered}
 use Rattle.paper.proofs.Choices.{impossible, gives-by}
 use Rattle.paper.proofs.WrittenBytes.{function-meaning}
 use Rattle.converter.specs.Passes.{otherThan}
@@ -34,7 +33,7 @@ use Rattle.converter.specs.declared.state.State.{State}
 use Rattle.converter.proofs.ItemsByBytes.{here, IsGood, At, in-form-here, waits-on}
 use Rattle.converter.proofs.SequencesGoOn.{RightEnd, after-escape, shifted-right, plain-right, means-right, final-right}
 
--- the bounds of the areas of controls
+-- the bounds of the areas
 area-by : (P : Area → Type 0) (b : ℕ) → (b / 16 ≤ lastOfC0 → P Area.C0) → (lastOfC0 < b / 16 → b / 16 ≤ lastOfGL → P Area.GL) →
     (lastOfGL < b / 16 → b / 16 ≤ lastOfC1 → P Area.C1) → (lastOfC1 < b / 16 → P Area.GR) → P (areaOf b)
 unfolding columnArea positionOf
@@ -44,7 +43,7 @@ area-by P b in-c0 in-gl in-c1 in-gr =
     (λ no. gives-by P (leb (b / 16) lastOfC1) (λ low. in-c1 (leb-false (b / 16) lastOfGL no) (leb-true (b / 16) lastOfC1 low))
     (λ no. in-gr (leb-false (b / 16) lastOfC1 no))))
 
-pub c0-bound : (b : ℕ) → areaOf b ≡ Area.C0 → b < bit8
+c0-bound : (b : ℕ) → areaOf b ≡ Area.C0 → b < bit8
 c0-bound b =
     area-by (λ (a : Area). a ≡ Area.C0 → b < bit8) b (λ h e. omega (arith, h)) (λ l h e. impossible (cc)) (λ l h e. impossible (cc))
     (λ h e. impossible (cc))
@@ -54,7 +53,7 @@ gl-bound b =
     area-by (λ (a : Area). a ≡ Area.GL → b < bit8) b (λ h e. impossible (cc)) (λ l h e. omega (arith, h)) (λ l h e. impossible (cc))
     (λ h e. impossible (cc))
 
-pub c1-bounds : (b : ℕ) → areaOf b ≡ Area.C1 → (bit8 ≤ b) × (b - bit8 ≤ lastFunction)
+c1-bounds : (b : ℕ) → areaOf b ≡ Area.C1 → (bit8 ≤ b) × (b - bit8 ≤ lastFunction)
 c1-bounds b =
     area-by (λ (a : Area). a ≡ Area.C1 → (bit8 ≤ b) × (b - bit8 ≤ lastFunction)) b (λ h e. impossible (cc)) (λ l h e. impossible (cc))
     (λ l h e. (omega (arith, l), omega (arith, h))) (λ h e. impossible (cc))
@@ -114,10 +113,10 @@ module _ (to : Form) (text lent : List ℕ) (t : Sets) (gl gr shown : Element) (
     unfolding controlOfC0
     c0-right is no-esc =
         gives-by Right (eqb b so)
-        (λ e. shifted-right to text lent t gl gr shown at start buffer Within.Ground place p inside Shift.LS1 b refl
+        (λ e. shifted-right to text lent t gl gr shown at start buffer Within.Ground place p inside Shift.LS1
         (is ∙ c0-so b ground no-esc e))
         (λ no-so. gives-by Right (eqb b si)
-        (λ e. shifted-right to text lent t gl gr shown at start buffer Within.Ground place p inside Shift.LS0 b refl
+        (λ e. shifted-right to text lent t gl gr shown at start buffer Within.Ground place p inside Shift.LS0
         (is ∙ c0-si b ground no-esc no-so e))
         (λ no-si. plain-right to text lent t gl gr shown at start buffer Within.Ground place p inside
         (Answer.Control ControlElement.C0 (t .c0) b) ground (is ∙ c0-else b ground no-esc no-so no-si) (λ n e. impossible (cc)) (λ u. refl)
@@ -136,7 +135,7 @@ module _ (to : Form) (text lent : List ℕ) (t : Sets) (gl gr shown : Element) (
         (λ high. let h : bit8 ≤ b = leb-true bit8 b high in absurd (omega (arith, h, c0-bound b area)))
         (λ low. c0-right is no))
 
-    -- the final of a C1 function is not written
+    -- what a C1 function does goes by its number alone, whatever byte stands for its final
     by-function : (n f : ℕ) → answerTo ground b ≡ means (c1Function n) Intermediates.None b ground →
         Right (meantAt to (c1Function n) Intermediates.None f state place)
     unfolding c1Function

@@ -7,7 +7,7 @@ use native.Mathlib.Omega.{arith}
 use borrow.Author.Tests.{le-leb, lt-leb}
 use lib.ListN.{length, getD}
 use Rattle.paper.specs.Choice.{between}
-use Rattle.paper.specs.Sequences.{sequenceByte}
+use Rattle.paper.specs.Sequences.{firstFinal, lastFinal, sequenceByte}
 use Rattle.paper.specs.declared.Form.{Form}
 use Rattle.paper.specs.declared.Refusal.{Refusal}
 use Rattle.paper.specs.declared.SequenceByte.{SequenceByte}
@@ -21,7 +21,7 @@ below-bounds first last n low = rw (lt-leb first n low)
 
 low-byte : (b : ℕ) → b < 0x20 → sequenceByte b ≡ SequenceByte.Neither
 unfolding sequenceByte
-low-byte b h = rw (below-bounds 0x20 0x2F b h, below-bounds 0x30 0x7E b (omega arith))
+low-byte b h = rw (below-bounds 0x20 0x2F b h, below-bounds firstFinal lastFinal b (omega arith))
 
 intermediate-byte : (b : ℕ) → 0x20 ≤ b → b ≤ 0x2F → sequenceByte b ≡ SequenceByte.Intermediate
 unfolding sequenceByte
@@ -29,11 +29,11 @@ intermediate-byte b low high = rw (in-bounds 0x20 0x2F b low high)
 
 final-byte : (b : ℕ) → 0x2F < b → b ≤ 0x7E → sequenceByte b ≡ SequenceByte.Final
 unfolding sequenceByte
-final-byte b low high = rw (above-bounds 0x20 0x2F b (omega arith) low, in-bounds 0x30 0x7E b low high)
+final-byte b low high = rw (above-bounds 0x20 0x2F b (omega arith) low, in-bounds firstFinal lastFinal b low high)
 
 high-byte : (b : ℕ) → 0x7E < b → sequenceByte b ≡ SequenceByte.Neither
 unfolding sequenceByte
-high-byte b low = rw (above-bounds 0x20 0x2F b (omega arith) (omega arith), above-bounds 0x30 0x7E b (omega arith) low)
+high-byte b low = rw (above-bounds 0x20 0x2F b (omega arith) (omega arith), above-bounds firstFinal lastFinal b (omega arith) low)
 
 pub past-the-end : (to : Form) (text : List ℕ) (place : ℕ) (on end : Ended) →
     length text ≤ place → Ended.Stops Refusal.EndsInside place ≡ insideAt to text place on end

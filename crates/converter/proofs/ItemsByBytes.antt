@@ -1,5 +1,5 @@
--- An item that is read whole is what the reader answers byte by byte: silence up to its last byte, then one answer, which is written as
--- the paper writes it; or a refusal at the same place.
+-- An item that is read whole is what the reader answers byte by byte: nothing yet up to its last byte, then one answer, which is
+-- written as the paper writes it; or a refusal at the same place.
 use Prim.Native.Nat.{ℕ, _+_, _≤_, _<_}
 use mathlib.Core.Path.{_≡_, refl, sym, ap, _∙_, subst}
 use mathlib.Core.Bool.{true, false}
@@ -22,7 +22,6 @@ use Rattle.paper.specs.declared.Reader.{Reader}
 use Rattle.paper.specs.declared.Refusal.{Refusal}
 use Rattle.paper.specs.declared.Answer.{Answer}
 use Rattle.paper.specs.declared.Answered.{Answered}
-use Rattle.paper.specs.declared.FirstRefusal.{FirstRefusal}
 use Rattle.paper.specs.declared.FirstRefusal.the-variants.{First}
 use Rattle.paper.proofs.Choices.{impossible}
 use Rattle.paper.proofs.ReadingOn.{readerWith, in-form}
@@ -38,7 +37,6 @@ use Rattle.converter.proofs.PassGoesOn.{NoRefusal, passing-goes-on, pas
 pub record GoesOn (to : Form) (text lent : List ℕ) (s : State) (t : Single) (at place : ℕ) (buffer bytes : List ℕ) (there : ℕ) :
     Type 0 where
   pub onward : place < there
-  pub within : there ≤ length text
   pub small : length bytes ≤ 5
   pub goes-on : (after : List ℕ) → length after ≡ length buffer → (at + length bytes ≤ length lent → after ≡ sets buffer at bytes) →
       Passes to text lent s t (at + length bytes) there after
@@ -119,7 +117,6 @@ module _ (to : Form) (text lent : List ℕ) (t : Sets) (gl gr shown : Element) (
       let u : Writer = beside (here w) shown in
       record {
         onward = omega (arith, p .from);
-        within = omega arith;
         small = omega (arith, ap length (e .bytes-are), at-most-five to u (e .answer));
         goes-on = λ after as-long stored.
             record {

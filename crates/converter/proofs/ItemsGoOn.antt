@@ -1,6 +1,6 @@
 -- What an item does is right, whatever the item is: by where the reader stands and by the byte's area.
-use Prim.Native.Nat.{ℕ, _+_, _≤_, _<_}
-use mathlib.Core.Path.{_≡_, refl, sym, _∙_, subst}
+use Prim.Native.Nat.{ℕ, _+_, _<_}
+use mathlib.Core.Path.{_≡_, refl, sym, subst}
 use mathlib.Core.Bool.{true}
 use mathlib.Core.List.{List}
 use native.Mathlib.Omega.{arith}
@@ -22,16 +22,15 @@ use Rattle.paper.specs.declared.SetByte.{SetByte}
 use Rattle.paper.specs.declared.GraphicArea.{GraphicArea}
 use Rattle.paper.specs.declared.PositionBytes.{PositionBytes}
 use Rattle.paper.specs.declared.Within.{Within}
-use Rattle.paper.specs.declared.Standing.{Standing}
 use Rattle.paper.specs.declared.Reader.{Reader}
 use Rattle.paper.specs.declared.Refusal.{Refusal}
 use Rattle.paper.specs.declared.Answer.{Answer}
 use Rattle.paper.proofs.Choices.{impossible, gives-by}
 use Rattle.converter.specs.Passes.{otherThan}
 use Rattle.converter.specs.Passing.{Passing, Passes}
-use Rattle.converter.specs.States.{stateOf, standingOf}
+use Rattle.converter.specs.States.{stateOf, withinOf}
 use Rattle.converter.specs.Turns.{Did, stops, wroteSpace}
-use Rattle.converter.specs.Items.{blankAt, bySetByte, graphicArea, graphicIn, graphicAt, isControl, controlAt, turnOf, turnAt}
+use Rattle.converter.specs.Items.{notOfSetAt, bySetByte, graphicArea, graphicIn, graphicAt, isControl, controlAt, turnOf, turnAt}
 use Rattle.converter.specs.declared.state.Single.{Single}
 use Rattle.converter.specs.declared.state.State.{State}
 use Rattle.converter.proofs.ItemsByBytes.{Good, here, IsGood, At, in-form-here, not-in-form, stops-at}
@@ -111,15 +110,15 @@ module _ (to : Form) (text lent : List ℕ) (t : Sets) (gl gr shown : Element) (
     -- ---- a byte of GR on the ground, or after a single shift: both are read as a character's first byte
 
     first-right : {w : Within} → Came w → (single : Single) (a : GraphicArea) (e : Element) →
-        blankAt to state single a b place ≡ stops Refusal.NotOfSet place → (k : SetByte) →
+        notOfSetAt to state single a b place ≡ stops Refusal.NotOfSet place → (k : SetByte) →
         answerTo (reader w) b ≡ ofCharacter k e (setIn t e) a (PositionBytes.One (positionIn a b)) b (reader w) →
         Right (bySetByte k to state single a e b text place)
-    first-right p single a e blank SetByte.OfSpace is =
-        subst Right (sym blank) (stops-at to text lent t gl gr shown at place buffer Refusal.NotOfSet p inside is)
-    first-right p single a e blank SetByte.OfDelete is =
-        subst Right (sym blank) (stops-at to text lent t gl gr shown at place buffer Refusal.NotOfSet p inside is)
-    first-right p single a e blank SetByte.OfSet is = whole-right to text lent t gl gr shown at place buffer p inside e a b is
-    first-right p single a e blank SetByte.Outside is =
+    first-right p single a e not-of-set SetByte.OfSpace is =
+        subst Right (sym not-of-set) (stops-at to text lent t gl gr shown at place buffer Refusal.NotOfSet p inside is)
+    first-right p single a e not-of-set SetByte.OfDelete is =
+        subst Right (sym not-of-set) (stops-at to text lent t gl gr shown at place buffer Refusal.NotOfSet p inside is)
+    first-right p single a e not-of-set SetByte.OfSet is = whole-right to text lent t gl gr shown at place buffer p inside e a b is
+    first-right p single a e not-of-set SetByte.Outside is =
         stops-at to text lent t gl gr shown at place buffer Refusal.AnotherArea p inside is
 
     -- ---- by the byte's area
@@ -151,12 +150,7 @@ module _ (to : Form) (text lent : List ℕ) (t : Sets) (gl gr shown : Element) (
 
     -- ---- by where the reader stands
 
-    abbrev within : Single → Within
-    within Single.Not = Within.Ground
-    within Single.OfG2 = Within.SingleShift Element.G2
-    within Single.OfG3 = Within.SingleShift Element.G3
-
-    by-single : (single : Single) → Came (within single) → formHas (otherThan to) b ≡ true →
+    by-single : (single : Single) → Came (withinOf single) → formHas (otherThan to) b ≡ true →
         Right (isControl single (areaOf b) gives controlAt to state b text place or graphicAt to state single b text place)
     unfolding graphicArea
     by-single Single.Not p has = by-area p has (areaOf b) refl
@@ -169,29 +163,21 @@ module _ (to : Form) (text lent : List ℕ) (t : Sets) (gl gr shown : Element) (
         (first-right p Single.OfG3 GraphicArea.GL Element.G3 refl (byteIn GraphicArea.GL (t .g3 .kind) b)
         (in-form-here to text lent t gl gr shown at place buffer (Within.SingleShift Element.G3) b has))
 
-    turn-right : (single : Single) → Came (within single) → Right (turnAt to state single text place)
+    turn-right : (single : Single) → Came (withinOf single) → Right (turnAt to state single text place)
     unfolding turnOf
     turn-right single p =
         gives-by Right (formHas (otherThan to) b) (λ has. by-single single p has)
         (λ lacks. stops-at to text lent t gl gr shown at place buffer Refusal.ByteOfEightBits p inside
-        (not-in-form to text lent t gl gr shown at place buffer (within single) b lacks))
-
-standing-within : (to : Form) (text lent : List ℕ) (t : Sets) (gl gr shown : Element) (at place : ℕ) (buffer : List ℕ) → (single : Single) →
-    (inside : place < length text) → standingOf single ≡ Standing.InStep (within to text lent t gl gr shown at place buffer inside single)
-standing-within to text lent t gl gr shown at place buffer Single.Not inside = refl
-standing-within to text lent t gl gr shown at place buffer Single.OfG2 inside = refl
-standing-within to text lent t gl gr shown at place buffer Single.OfG3 inside = refl
+        (not-in-form to text lent t gl gr shown at place buffer (withinOf single) b lacks))
 
 pub items-go-on : {to : Form} {text lent : List ℕ} {s : State} {t : Single} {at place : ℕ} {buffer : List ℕ} →
     Passes to text lent s t at place buffer → place < length text → Good to text lent at place buffer (turnAt to s t text place)
 items-go-on {to} {text} {lent} {s} {t} {at} {place} {buffer} p inside =
     let r : Reader = p .reader in
-    let stands = p .stands ∙ standing-within to text lent (r .sets) (r .gl) (r .gr) (p .shown) at place buffer t inside in
-    let came : Passing to text lent
-    (here to text lent (r .sets) (r .gl) (r .gr) (p .shown) at place buffer
-    (within to text lent (r .sets) (r .gl) (r .gr) (p .shown) at place buffer inside t)) (p .shown) at place buffer =
+    let came : Passing to text lent (here to text lent (r .sets) (r .gl) (r .gr) (p .shown) at place buffer (withinOf t)) (p .shown) at
+    place buffer =
     subst (λ (x : Reader). Passing to text lent x (p .shown) at place buffer)
-    (λ i. record { form = p .passing .form i; sets = r .sets; gl = r .gl; gr = r .gr; standing = stands i }) (p .passing) in
+    (λ i. record { form = p .passing .form i; sets = r .sets; gl = r .gl; gr = r .gr; standing = p .stands i }) (p .passing) in
     subst (λ (s : State). Good to text lent at place buffer (turnAt to s t text place)) (sym (p .has))
     (turn-right to text lent (r .sets) (r .gl) (r .gr) (p .shown) at place buffer inside t
     (record { passing = came; from = omega arith }))

@@ -25,7 +25,6 @@ use Rattle.paper.specs.declared.GraphicArea.{GraphicArea}
 use Rattle.paper.specs.declared.PositionBytes.{PositionBytes}
 use Rattle.paper.specs.declared.Within.{Within}
 use Rattle.paper.specs.declared.Reader.{Reader}
-use Rattle.paper.specs.declared.Refusal.{Refusal}
 use Rattle.paper.specs.declared.Answer.{Answer}
 use Rattle.paper.proofs.Choices.{impossible, gives-by}
 use Rattle.paper.proofs.ReadingOn.{readerWith}
@@ -35,15 +34,17 @@ use Rattle.converter.specs.declared.lane.Copy.{Copy}
 use Rattle.converter.specs.declared.lane.Lane.{Lane}
 use Rattle.converter.specs.Lanes.{ifOne, copyInSeven, copyInEight, laneOf, copiedFromGL, copiedFromGR, copied}
 use Rattle.converter.specs.Passes.{otherThan}
+use Rattle.converter.specs.Passing.{beside}
 use Rattle.converter.specs.States.{sizeOf, stateOf, standingOf}
+use Rattle.converter.proofs.PassGoesOn.{NoRefusal}
 
 -- a byte that the lane copies is a whole character that leaves reader and writer as they are, and is written as that one byte
 pub record Copies (to : Form) (gl : Element) (r : Reader) (b c : ℕ) : Type 0 where
   pub answer : Answer
   pub answers : answerTo r b ≡ record { answer = answer; reader = r }
-  pub no-refusal : (n : Refusal) → answer ≡ Answer.Refused n → ⊥
-  pub writes : writtenFor to (record { sets = r .sets; gl = gl }) answer ≡ c ∷ []
-  pub shows : writerAfter to (record { sets = r .sets; gl = gl }) answer .gl ≡ gl
+  pub no-refusal : NoRefusal answer
+  pub writes : writtenFor to (beside r gl) answer ≡ c ∷ []
+  pub shows : writerAfter to (beside r gl) answer .gl ≡ gl
 
 -- ---- the writer
 

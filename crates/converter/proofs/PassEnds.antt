@@ -14,7 +14,7 @@ use Rattle.paper.specs.declared.Converted.{Converted}
 use Rattle.paper.specs.declared.FirstRefusal.{FirstRefusal}
 use Rattle.paper.specs.declared.FirstRefusal.the-variants.{First}
 use Rattle.paper.proofs.Choices.{impossible}
-use Rattle.converter.specs.Passes.{otherThan, passedBy, endedAt}
+use Rattle.converter.specs.Passes.{otherThan, passedBy, atTheEnd}
 use Rattle.converter.specs.Passing.{outputTo, Passes}
 use Rattle.converter.specs.States.{standingOf}
 use Rattle.converter.specs.declared.state.Single.{Single}
@@ -32,14 +32,14 @@ pub refused-promised : (to : Form) (text lent buffer : List ℕ) (n : Refusal) (
 refused-promised to text lent buffer n place e =
     (ap (λ (f : FirstRefusal). passedBy f (length (outputTo to text))) (sym e), λ accepted room. impossible (cc))
 
-ended-by : (t : Single) (at place : ℕ) → passedBy (refusalAtEnd (endStanding (standingOf t)) place) at ≡ endedAt t at place
+ended-by : (t : Single) (at place : ℕ) → passedBy (refusalAtEnd (endStanding (standingOf t)) place) at ≡ atTheEnd t at place
 ended-by Single.Not at place = refl
 ended-by Single.OfG2 at place = refl
 ended-by Single.OfG3 at place = refl
 
 -- after a single shift the text ends inside
 pub end-promised : {to : Form} {text lent : List ℕ} {s : State} {t : Single} {at place : ℕ} {buffer : List ℕ} →
-    Passes to text lent s t at place buffer → length text ≤ place → (answer : Converted) → answer ≡ endedAt t at place →
+    Passes to text lent s t at place buffer → length text ≤ place → (answer : Converted) → answer ≡ atTheEnd t at place →
     Promised to text lent answer buffer
 end-promised {to} {text} {lent} {s} {t} {at} {place} {buffer} p past answer is =
     let ends = passing-ends (p .passing) past in

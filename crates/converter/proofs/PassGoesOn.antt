@@ -1,29 +1,26 @@
--- At every place of a pass what is left to read gives the rest of the output and the refusal of the whole text; what was written so
--- far stands at the beginning of the buffer, where that has room for the whole output.
-use Prim.Native.Nat.{ℕ, suc, _+_, _<_, _≤_}
-use mathlib.Core.Path.{_≡_, refl, sym, ap, _∙_, subst}
+-- A pass goes on by one byte: its answer is written, or it is the refusal of the text; and what holds where the text ends.
+use Prim.Native.Nat.{ℕ, _+_, _<_, _≤_}
+use mathlib.Core.Path.{_≡_, refl, sym, ap, _∙_}
 use mathlib.Core.List.{List, [], _∷_, _++_, append-assoc, append-nil}
-use native.Mathlib.Nat.{add-zero}
 use native.Mathlib.Numerals.{add-one}
 use native.Mathlib.Omega.{arith}
 use lib.ListN.{length, drop, getD, length-append, drop-of-length-le}
 use lib.Seq.{drop-cons, sets}
 use Rattle.paper.specs.Starting.{started}
-use Rattle.paper.specs.Answering.{answerTo, answerStanding, answerInStep, endOfText}
+use Rattle.paper.specs.Answering.{answerTo, answerStanding, endOfText}
 use Rattle.paper.specs.Texts.{readerAfter, answersFrom}
 use Rattle.paper.specs.LentBuffers.{over}
 use Rattle.paper.specs.Surveying.{refusalOr, firstRefusal, firstOf}
-use Rattle.paper.specs.WrittenForms.{sequenceIn, Writer, writtenFor, setsWith, writerAfter, writtenFrom}
-use Rattle.paper.specs.Conversions.{refusalAtEnd, refusalIn, output}
+use Rattle.paper.specs.WrittenForms.{sequenceIn, writtenFor, writerAfter, writtenFrom}
+use Rattle.paper.specs.Conversions.{refusalAtEnd, refusalIn}
 use Rattle.paper.specs.declared.Form.{Form}
 use Rattle.paper.specs.declared.Element.{Element}
 use Rattle.paper.specs.declared.Standing.{Standing}
 use Rattle.paper.specs.declared.Reader.{Reader}
 use Rattle.paper.specs.declared.Refusal.{Refusal}
 use Rattle.paper.specs.declared.Answer.{Answer}
-use Rattle.paper.specs.declared.Answered.{Answered}
 use Rattle.paper.specs.declared.FirstRefusal.{FirstRefusal}
-use Rattle.paper.specs.declared.FirstRefusal.the-variants.{Never, First}
+use Rattle.paper.specs.declared.FirstRefusal.the-variants.{First}
 use Rattle.paper.proofs.LawfulAnswers.{IsInStep, Leaves, in-step-lawful, form-on}
 use Rattle.paper.proofs.WrittenTurnByTurn.{one-turn, sets-by-the-answer}
 use Rattle.converter.specs.Passes.{otherThan}

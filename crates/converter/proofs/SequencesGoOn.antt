@@ -1,18 +1,15 @@
 -- A sequence that is read whole: its intermediates are answered with nothing yet, and its final with what the sequence means.
-use Prim.Native.Nat.{ℕ, _+_, _-_, _≤_, _<_}
-use mathlib.Core.Path.{_≡_, refl, sym, ap, _∙_, subst}
-use mathlib.Core.Bool.{true, false}
+use Prim.Native.Nat.{ℕ, _+_, _<_}
+use mathlib.Core.Path.{_≡_, refl, sym, ap, _∙_}
+use mathlib.Core.Bool.{true}
 use mathlib.Core.List.{List, []}
-use native.Mathlib.Omega.{arith}
-use borrow.Author.Tests.{leb-true, leb-false, eqb-true}
-use lib.Dec.{leb, eqb}
+use borrow.Author.Tests.{leb-true, leb-false}
+use lib.Dec.{leb}
 use lib.ListN.{length, getD}
-use Rattle.paper.specs.Choice.{_gives_or_}
-use Rattle.paper.specs.CodeTable.{formHas, areaOf, bit8, so, si, esc}
-use Rattle.paper.specs.Sequences.{sequenceByte, meaningOf, meaningOfNone, c1Function, finalOfFunction, lastFunction, functionOfSS2}
-use Rattle.paper.specs.Sequences.{functionOfSS3, intermediateOfControls}
+use Rattle.paper.specs.CodeTable.{formHas}
+use Rattle.paper.specs.Sequences.{sequenceByte, meaningOf, intermediateOfControls}
 use Rattle.paper.specs.Sets.{designated, designatedControls}
-use Rattle.paper.specs.Characters.{shifts, c0Byte}
+use Rattle.paper.specs.Characters.{shifts}
 use Rattle.paper.specs.Answering.{answerTo, sequenceAt, intermediate, means, withSets}
 use Rattle.paper.specs.WrittenForms.{Writer, none, lockingInSeven, bytesOfAnswer, sequenceBytes, designationBytes}
 use Rattle.paper.specs.Conversions.{refusalIn}
@@ -31,20 +28,19 @@ use Rattle.paper.specs.declared.Reader.{Reader}
 use Rattle.paper.specs.declared.Refusal.{Refusal}
 use Rattle.paper.specs.declared.Answer.{Answer}
 use Rattle.paper.specs.declared.Answered.{Answered}
-use Rattle.paper.specs.declared.FirstRefusal.{FirstRefusal}
 use Rattle.paper.specs.declared.FirstRefusal.the-variants.{First}
 use Rattle.paper.proofs.Choices.{impossible, gives-by}
 use Rattle.paper.proofs.WrittenBytes.{form-has-area, both-have-gl, intermediate-area, final-area}
 use Rattle.converter.specs.Passes.{otherThan}
 use Rattle.converter.specs.Passing.{beside}
 use Rattle.converter.specs.States.{sizeOfSet, stateOf, standingOf, withSize}
-use Rattle.converter.specs.Turns.{Did, writes, stops}
+use Rattle.converter.specs.Turns.{Did, writes}
 use Rattle.converter.specs.Items.{notOfSequence, bySequenceByte, insideAt, afterTwo, afterOne, afterEscape, shiftAt, meantAt}
 use Rattle.converter.specs.declared.item.Ended.{Ended}
 use Rattle.converter.specs.declared.state.Single.{Single}
 use Rattle.converter.specs.declared.state.State.{State}
 use Rattle.converter.proofs.PassGoesOn.{NoRefusal, passing-refused}
-use Rattle.converter.proofs.ItemsByBytes.{here, byte, IsGood, At, Ends, in-form-here, not-in-form, waits-on, ends-well, stops-at}
+use Rattle.converter.proofs.ItemsByBytes.{here, IsGood, At, in-form-here, not-in-form, waits-on, ends-well, stops-at}
 use Rattle.converter.proofs.ItemsByBytes.{ends-inside, alone-bytes, alone-shows}
 
 module _ (to : Form) (text lent : List ℕ) (t : Sets) (gl gr shown : Element) (at start : ℕ) (buffer : List ℕ) where
@@ -150,17 +146,17 @@ module _ (to : Form) (text lent : List ℕ) (t : Sets) (gl gr shown : Element) (
   state = stateOf (reader Within.Ground) shown
 
   -- a shift answers itself, and nothing is written for it
-  shift-right : (w : Within) (place : ℕ) → Came w place → place < length text → (h : Shift) (b : ℕ) →
-      b ≡ getD text place 0 → (next : Reader) → answerTo (reader w) b ≡ record { answer = Answer.Shift h; reader = next } →
+  shift-right : (w : Within) (place : ℕ) → Came w place → place < length text → (h : Shift) (next : Reader) →
+      answerTo (reader w) (getD text place 0) ≡ record { answer = Answer.Shift h; reader = next } →
       (s : State) (single : Single) → s ≡ stateOf next shown → next .standing ≡ standingOf single → Right (writes s single [] (place + 1))
-  shift-right w place p inside h b here next is s single has stands =
+  shift-right w place p inside h next is s single has stands =
       let u : Writer = beside (reader w) shown in
       ends-well to text lent t gl gr shown at start buffer p inside
       (record {
         answer = Answer.Shift h;
         next = next;
         after = shown;
-        answers = ap (answerTo (reader w)) (sym here) ∙ is;
+        answers = is;
         no-refusal = λ n e. impossible (cc);
         bytes-are = sym (alone-bytes to u (Answer.Shift h) refl);
         shows = sym (alone-shows to u (Answer.Shift h) refl);
@@ -168,17 +164,17 @@ module _ (to : Form) (text lent : List ℕ) (t : Sets) (gl gr shown : Element) (
         stands = stands;
       })
 
-  pub shifted-right : (w : Within) (place : ℕ) → Came w place → place < length text → (h : Shift) (b : ℕ) → b ≡ getD text place 0 →
-      answerTo (reader w) b ≡ shifts h (reader w) → Right (shiftAt h state (place + 1))
-  shifted-right w place p inside Shift.LS0 b here is = shift-right w place p inside Shift.LS0 b here _ is _ Single.Not refl refl
-  shifted-right w place p inside Shift.LS1 b here is = shift-right w place p inside Shift.LS1 b here _ is _ Single.Not refl refl
-  shifted-right w place p inside Shift.LS2 b here is = shift-right w place p inside Shift.LS2 b here _ is _ Single.Not refl refl
-  shifted-right w place p inside Shift.LS3 b here is = shift-right w place p inside Shift.LS3 b here _ is _ Single.Not refl refl
-  shifted-right w place p inside Shift.LS1R b here is = shift-right w place p inside Shift.LS1R b here _ is _ Single.Not refl refl
-  shifted-right w place p inside Shift.LS2R b here is = shift-right w place p inside Shift.LS2R b here _ is _ Single.Not refl refl
-  shifted-right w place p inside Shift.LS3R b here is = shift-right w place p inside Shift.LS3R b here _ is _ Single.Not refl refl
-  shifted-right w place p inside Shift.SS2 b here is = shift-right w place p inside Shift.SS2 b here _ is _ Single.OfG2 refl refl
-  shifted-right w place p inside Shift.SS3 b here is = shift-right w place p inside Shift.SS3 b here _ is _ Single.OfG3 refl refl
+  pub shifted-right : (w : Within) (place : ℕ) → Came w place → place < length text → (h : Shift) →
+      answerTo (reader w) (getD text place 0) ≡ shifts h (reader w) → Right (shiftAt h state (place + 1))
+  shifted-right w place p inside Shift.LS0 is = shift-right w place p inside Shift.LS0 _ is _ Single.Not refl refl
+  shifted-right w place p inside Shift.LS1 is = shift-right w place p inside Shift.LS1 _ is _ Single.Not refl refl
+  shifted-right w place p inside Shift.LS2 is = shift-right w place p inside Shift.LS2 _ is _ Single.Not refl refl
+  shifted-right w place p inside Shift.LS3 is = shift-right w place p inside Shift.LS3 _ is _ Single.Not refl refl
+  shifted-right w place p inside Shift.LS1R is = shift-right w place p inside Shift.LS1R _ is _ Single.Not refl refl
+  shifted-right w place p inside Shift.LS2R is = shift-right w place p inside Shift.LS2R _ is _ Single.Not refl refl
+  shifted-right w place p inside Shift.LS3R is = shift-right w place p inside Shift.LS3R _ is _ Single.Not refl refl
+  shifted-right w place p inside Shift.SS2 is = shift-right w place p inside Shift.SS2 _ is _ Single.OfG2 refl refl
+  shifted-right w place p inside Shift.SS3 is = shift-right w place p inside Shift.SS3 _ is _ Single.OfG3 refl refl
 
   -- every other answer that a sequence, or a control, gives takes no locking shift and leaves the reader on the ground
   pub plain-right : (w : Within) (place : ℕ) → Came w place → place < length text → (a : Answer) (next : Reader) →
@@ -232,7 +228,7 @@ module _ (to : Form) (text lent : List ℕ) (t : Sets) (gl gr shown : Element) (
       plain-right w place p inside (Answer.Other i f) _ is (λ n e. impossible (cc)) (λ u. refl) _ refl refl
   means-right w place p inside (Meaning.Function n) i f is =
       plain-right w place p inside (Answer.Control ControlElement.C1 (t .c1) n) _ is (λ n e. impossible (cc)) (λ u. refl) _ refl refl
-  means-right w place p inside (Meaning.Shifts h) i f is = shifted-right w place p inside h (getD text place 0) refl is
+  means-right w place p inside (Meaning.Shifts h) i f is = shifted-right w place p inside h is
   means-right w place p inside (Meaning.DesignateControls v) i f is = controls-right w place p inside v f is
   means-right w place p inside (Meaning.Designate e k n) i f is =
       designated-right w place p inside e (record { kind = k; count = n; last = f }) is

@@ -1,6 +1,6 @@
 -- No rule of the paper: for the contracts of private functions.
 -- An item of a text from its place on, by the paper's definitions for a byte.
-use Prim.Native.Nat.{ℕ, _+_, _-_, _%_}
+use Prim.Native.Nat.{ℕ, _+_, _-_}
 use mathlib.Core.Bool.{Bool, true, false}
 use mathlib.Core.List.{List, [], _∷_}
 use lib.Dec.{ltb, leb, eqb}
@@ -71,7 +71,7 @@ sequenceFrom to b text place =
     leb bit8 b gives Ended.At Intermediates.None (finalOfFunction + (b - bit8)) place or
     Ended.Not
 
--- the place after a shift
+-- a shift; the place is that after it
 abbrev pub shiftAt : Shift → State → ℕ → Did
 shiftAt Shift.LS0 s place = writes (withGL Element.G0 s) Single.Not [] place
 shiftAt Shift.LS1 s place = writes (withGL Element.G1 s) Single.Not [] place
@@ -94,7 +94,7 @@ meantAt to (Meaning.DesignateControls v) i f s place =
 meantAt to (Meaning.Designate e k n) i f s place =
     writes (withSize e (sizeOf k n) s) Single.Not (designationBytes e (record { kind = k; count = n; last = f })) (place + 1)
 
--- the place after a byte of C0
+-- a byte of C0 that is not ESC; the place is that after it
 unfoldable pub controlOfC0 : State → ℕ → ℕ → Did
 controlOfC0 s b place =
     eqb b so gives shiftAt Shift.LS1 s place or
@@ -159,8 +159,8 @@ wroteTaken (Taken.Bytes p place) to s e = wroteCharacter to s e p place
 wroteTaken (Taken.Stops n place) to s e = stops n place
 
 -- from the first byte on
-abbrev pub wholeAt : Form → State → Element → Size → GraphicArea → ℕ → List ℕ → ℕ → Did
-wholeAt to s e x a b text place = wroteTaken (bytesAt to x a (positionIn a b) text place) to s e
+abbrev pub characterAt : Form → State → Element → Size → GraphicArea → ℕ → List ℕ → ℕ → Did
+characterAt to s e x a b text place = wroteTaken (bytesAt to x a (positionIn a b) text place) to s e
 
 -- after a single shift from GL alone
 unfoldable pub graphicArea : Single → ℕ → GraphicArea
@@ -176,16 +176,16 @@ elementIn s Single.OfG2 a = Element.G2
 elementIn s Single.OfG3 a = Element.G3
 
 -- 2/0 and 7/15 under 94 type: on the ground in GL they are SPACE and DELETE, elsewhere they are refused
-abbrev pub blankAt : Form → State → Single → GraphicArea → ℕ → ℕ → Did
-blankAt to s Single.Not GraphicArea.GL b place = wroteSpace to s b (place + 1)
-blankAt to s Single.Not GraphicArea.GR b place = stops Refusal.NotOfSet place
-blankAt to s Single.OfG2 a b place = stops Refusal.NotOfSet place
-blankAt to s Single.OfG3 a b place = stops Refusal.NotOfSet place
+abbrev pub notOfSetAt : Form → State → Single → GraphicArea → ℕ → ℕ → Did
+notOfSetAt to s Single.Not GraphicArea.GL b place = wroteSpace to s b (place + 1)
+notOfSetAt to s Single.Not GraphicArea.GR b place = stops Refusal.NotOfSet place
+notOfSetAt to s Single.OfG2 a b place = stops Refusal.NotOfSet place
+notOfSetAt to s Single.OfG3 a b place = stops Refusal.NotOfSet place
 
 abbrev pub bySetByte : SetByte → Form → State → Single → GraphicArea → Element → ℕ → List ℕ → ℕ → Did
-bySetByte SetByte.OfSpace to s t a e b text place = blankAt to s t a b place
-bySetByte SetByte.OfDelete to s t a e b text place = blankAt to s t a b place
-bySetByte SetByte.OfSet to s t a e b text place = wholeAt to s e (sizeIn s e) a b text place
+bySetByte SetByte.OfSpace to s t a e b text place = notOfSetAt to s t a b place
+bySetByte SetByte.OfDelete to s t a e b text place = notOfSetAt to s t a b place
+bySetByte SetByte.OfSet to s t a e b text place = characterAt to s e (sizeIn s e) a b text place
 bySetByte SetByte.Outside to s t a e b text place = stops Refusal.AnotherArea place
 
 abbrev pub graphicIn : Form → State → Single → GraphicArea → Element → ℕ → List ℕ → ℕ → Did

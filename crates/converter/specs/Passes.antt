@@ -18,7 +18,7 @@ otherThan Form.Seven = Form.Eight
 otherThan Form.Eight = Form.Seven
 
 -- at the end of the text: 7 after a single shift
-abbrev pub endedAt : Single → ℕ → ℕ → Converted
-endedAt Single.Not at place = Converted.Done at
-endedAt Single.OfG2 at place = Converted.Refused Refusal.EndsInside place
-endedAt Single.OfG3 at place = Converted.Refused Refusal.EndsInside place
+abbrev pub atTheEnd : Single → ℕ → ℕ → Converted
+atTheEnd Single.Not at place = Converted.Done at
+atTheEnd Single.OfG2 at place = Converted.Refused Refusal.EndsInside place
+atTheEnd Single.OfG3 at place = Converted.Refused Refusal.EndsInside place

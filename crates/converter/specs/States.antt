@@ -53,14 +53,18 @@ stateOf r shown = record {
   g3 = sizeOfSet (r .sets .g3);
 }
 
+-- both forms start alike
 abbrev pub startingState : State
 startingState = stateOf (started Form.Eight) Element.G0
 
 -- between two items a reader stands on the ground, or after a single shift
+abbrev pub withinOf : Single → Within
+withinOf Single.Not = Within.Ground
+withinOf Single.OfG2 = Within.SingleShift Element.G2
+withinOf Single.OfG3 = Within.SingleShift Element.G3
+
 abbrev pub standingOf : Single → Standing
-standingOf Single.Not = Standing.InStep Within.Ground
-standingOf Single.OfG2 = Standing.InStep (Within.SingleShift Element.G2)
-standingOf Single.OfG3 = Standing.InStep (Within.SingleShift Element.G3)
+standingOf t = Standing.InStep (withinOf t)
 
 abbrev pub sizeIn : State → Element → Size
 sizeIn s Element.G0 = s .g0

@@ -13,7 +13,6 @@ use crate::state::size_of;
 use crate::state::with_gl;
 use crate::state::with_gr;
 use crate::state::with_sizes;
-use crate::written::FINAL_OF_FUNCTION;
 use crate::written::Turn;
 use crate::written::character;
 use crate::written::controls;
@@ -29,6 +28,7 @@ use codetable::SI;
 use codetable::SO;
 use codetable::area_of;
 use codetable::form_has;
+use escapes::FINAL_OF_FUNCTION;
 use escapes::FIRST_INTERMEDIATE;
 use escapes::LAST_FINAL;
 use escapes::LAST_INTERMEDIATE;
@@ -53,7 +53,7 @@ ghost use Rattle.paper.specs.Characters.{positionIn, byteIn};
 ghost use Rattle.converter.specs.Pieces.{bytesIn};
 ghost use Rattle.converter.specs.Turns.{did, writes};
 ghost use Rattle.converter.specs.Items.{notOfSequence, afterTwo, afterOne, afterEscape, sequenceFrom, ofSet, laterAt, ofTwo};
-ghost use Rattle.converter.specs.Items.{thirdOfThree, ofThree, bytesAt, wholeAt, graphicArea, elementIn, blankAt, graphicAt};
+ghost use Rattle.converter.specs.Items.{thirdOfThree, ofThree, bytesAt, characterAt, graphicArea, elementIn, notOfSetAt, graphicAt};
 ghost use Rattle.converter.specs.Items.{shiftAt, meantAt, controlOfC0, controlAt, isControl, turnAt};
 ghost use Rattle.converter.specs.States.{withSize};
 ghost use Rattle.converter.specs.declared.state.Single.{Single};
@@ -77,7 +77,7 @@ enum Taken {
     Stops(Refusal, usize),
 }
 
-// A byte that is neither an intermediate nor a final.
+// A byte that is neither an intermediate nor a final: 1 before 2. Those are bytes of both forms, so 1 is not tested before them.
 fn not_of_sequence(to: Form, byte: u8, place: usize) -> Ended
     ensures { λ r. ⌜ r ≡ notOfSequence to byte place ⌝ }
 {
@@ -88,6 +88,8 @@ fn not_of_sequence(to: Form, byte: u8, place: usize) -> Ended
     }
 }
 
+// Inside a sequence, by how many intermediates stand before. The tests are those of `escapes::sequence_byte`, made here so that no
+// choice is handed over to be looked at again.
 fn after_two(to: Form, first: u8, second: u8, text: &[u8], place: usize) -> Ended
     requires { ⌜ place ≤ length (now text) ⌝ }
     ensures { λ r. ⌜ r ≡ afterTwo to first second (now (text .entry)) place ⌝ }
@@ -287,7 +289,7 @@ fn control(to: Form, state: State, byte: u8, text: &[u8], place: usize) -> Turn
     }
 }
 
-// What a byte is to a set of a kind whose characters come from an area. 2/1 to 7/14 are of every set, which is tried first.
+// 2/1 to 7/14 are positions of every set and most of a text, so they are tried first.
 fn byte_in_gl(kind: Kind, byte: u8) -> SetByte
     ensures { λ r. ⌜ r ≡ byteIn GraphicArea.GL kind byte ⌝ }
 {
@@ -309,6 +311,7 @@ fn byte_in_gr(kind: Kind, byte: u8) -> SetByte
     }
 }
 
+// What a byte is to a set of a kind whose characters come from an area.
 fn byte_in(area: GraphicArea, kind: Kind, byte: u8) -> SetByte
     ensures { λ r. ⌜ r ≡ byteIn area kind byte ⌝ }
 {
@@ -365,7 +368,7 @@ fn of_two(to: Form, area: GraphicArea, kind: Kind, first: u8, text: &[u8], place
     }
 }
 
-// A character of three bytes from its third on, and from its second on.
+// A character of three bytes from its third on.
 fn third_of_three(
     to: Form,
     area: GraphicArea,
@@ -384,6 +387,7 @@ fn third_of_three(
     }
 }
 
+// And from its second on.
 fn of_three(to: Form, area: GraphicArea, kind: Kind, first: u8, text: &[u8], place: usize) -> Taken
     requires { ⌜ place ≤ longestText ⌝ }
     ensures { λ r. ⌜ r ≡ ofThree to area kind first (now (text .entry)) place ⌝ }
@@ -464,9 +468,16 @@ fn element_in(state: State, single: Single, area: GraphicArea) -> Element
 }
 
 // 2/0 and 7/15 under 94 type: on the ground in GL they are SPACE and DELETE, elsewhere they are refused.
-fn blank(to: Form, state: State, single: Single, area: GraphicArea, byte: u8, place: usize) -> Turn
+fn not_of_set(
+    to: Form,
+    state: State,
+    single: Single,
+    area: GraphicArea,
+    byte: u8,
+    place: usize,
+) -> Turn
     requires { ⌜ place < longestText ⌝ }
-    ensures { λ r. ⌜ did r ≡ blankAt to state single area byte place ⌝ }
+    ensures { λ r. ⌜ did r ≡ notOfSetAt to state single area byte place ⌝ }
 {
     match single {
         Single::Not => match area {
@@ -479,7 +490,7 @@ fn blank(to: Form, state: State, single: Single, area: GraphicArea, byte: u8, pl
 }
 
 // A character from its first byte on.
-fn whole(
+fn whole_character(
     to: Form,
     state: State,
     element: Element,
@@ -490,7 +501,7 @@ fn whole(
     place: usize,
 ) -> Turn
     requires { ⌜ place < longestText ⌝ }
-    ensures { λ r. ⌜ did r ≡ wholeAt to state element size area byte (now (text .entry)) place ⌝ }
+    ensures { λ r. ⌜ did r ≡ characterAt to state element size area byte (now (text .entry)) place ⌝ }
 {
     match position_bytes(to, size, area, position_in(area, byte), text, place) {
         Taken::Bytes(bytes, there) => character(to, state, element, bytes, there),
@@ -507,9 +518,9 @@ fn graphic(to: Form, state: State, single: Single, byte: u8, text: &[u8], place:
     let element = element_in(state, single, area);
     let size = size_in(state, element);
     match byte_in(area, kind_of(size), byte) {
-        SetByte::OfSpace => blank(to, state, single, area, byte, place),
-        SetByte::OfDelete => blank(to, state, single, area, byte, place),
-        SetByte::OfSet => whole(to, state, element, size, area, byte, text, place),
+        SetByte::OfSpace => not_of_set(to, state, single, area, byte, place),
+        SetByte::OfDelete => not_of_set(to, state, single, area, byte, place),
+        SetByte::OfSet => whole_character(to, state, element, size, area, byte, text, place),
         SetByte::Outside => Turn::Stops(Refusal::AnotherArea, place),
     }
 }

@@ -168,7 +168,7 @@ fn next_copied(lane: Lane, text: &[u8], place: usize) -> u8
     }
 }
 
-// Copies the bytes of the lane from a place on, as far as there is room, and answers the place after them.
+// Copies a run of the lane from a place on, byte by byte where there is room, and answers the place after the run in any case.
 pub(crate) fn copy_lane(
     to: Form,
     state: State,

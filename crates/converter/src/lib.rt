@@ -26,7 +26,7 @@ ghost use Rattle.paper.specs.Refusals.{longestText};
 ghost use Rattle.paper.specs.LentBuffers.{over};
 ghost use Rattle.paper.specs.Conversions.{refusalIn, Accepted, output, conversion, bufferAfter};
 ghost use Rattle.paper.specs.declared.Form.{Form};
-ghost use Rattle.converter.specs.Passes.{otherThan, passedBy, endedAt};
+ghost use Rattle.converter.specs.Passes.{otherThan, passedBy, atTheEnd};
 ghost use Rattle.converter.specs.Passing.{Passes};
 
 // The text in 8-bit form to 7-bit form: the length of what was written, or a refusal with its place and nothing written.
@@ -95,25 +95,25 @@ fn pass(to: Form, text: &[u8], buffer: &mut [u8]) -> Converted
         at += run - place;
         place = run;
         if place >= text.len() {
-            return ended(single, at, place);
+            return at_the_end(single, at, place);
         }
         match turn_at(to, state, single, text, place) {
-            Turn::Writes(next, taken, piece, there) => {
+            Turn::Writes(next, shifted, piece, there) => {
                 put_if_room(buffer, at, piece);
                 at += piece.count;
                 state = next;
-                single = taken;
+                single = shifted;
                 place = there;
             }
             Turn::Stops(refusal, there) => return Converted::Refused(refusal, there),
         }
     }
-    ended(single, at, place)
+    at_the_end(single, at, place)
 }
 
 // At the end of the text: 7 after a single shift.
-fn ended(single: Single, at: usize, place: usize) -> Converted
-    ensures { λ r. ⌜ r ≡ endedAt single at place ⌝ }
+fn at_the_end(single: Single, at: usize, place: usize) -> Converted
+    ensures { λ r. ⌜ r ≡ atTheEnd single at place ⌝ }
 {
     match single {
         Single::Not => Converted::Done(at),
@@ -122,7 +122,7 @@ fn ended(single: Single, at: usize, place: usize) -> Converted
     }
 }
 
-// A run of the lane from a place on: the place after it.
+// A run of the lane from a place on: the place after it. No control and no SPACE is of the lane, so none is made for them.
 fn copy_run(
     to: Form,
     state: State,

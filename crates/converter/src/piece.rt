@@ -1,4 +1,4 @@
-// A piece of output: what is written for one answer, at most five bytes. They stand in one number, the first in its lowest place, so
+// A piece of output: what is written for one item, at most five bytes. They stand in one number, the first in its lowest place, so
 // that a piece is handed over in two registers.
 ghost use Prim.Native.Nat.{_+_, _*_, _≤_, _<_};
 ghost use mathlib.Core.Path.{_≡_};

@@ -15,7 +15,15 @@ use codetable::ESC;
 use codetable::SI;
 use codetable::SO;
 use codetable::between;
+use escapes::FINAL_OF_FUNCTION;
+use escapes::FIRST_SHORT;
+use escapes::LAST_FUNCTION;
+use escapes::LAST_SHORT;
+use escapes::OF_C0;
+use escapes::OF_C1;
 use escapes::SEVERAL;
+use escapes::SINGLE_SHIFT_THREE;
+use escapes::SINGLE_SHIFT_TWO;
 use paper::ControlElement;
 use paper::Count;
 use paper::Element;
@@ -37,30 +45,19 @@ ghost use Rattle.paper.specs.declared.Intermediates.{Intermediates};
 ghost use Rattle.converter.specs.Pieces.{bytesIn};
 ghost use Rattle.converter.specs.Turns.{did, afterLocking, wroteCharacter, wroteSpace};
 
-// The intermediates of control sets.
-const OF_C0: u8 = 0x21;
+// How many C1 functions there are, and the finals and the bytes of two of them.
+const FUNCTIONS: u8 = LAST_FUNCTION + 1;
 
-const OF_C1: u8 = 0x22;
+const FINAL_OF_SS2: u8 = FINAL_OF_FUNCTION + SINGLE_SHIFT_TWO;
 
-// The short sequence's Final Bytes.
-const FIRST_SHORT: u8 = 0x40;
+const FINAL_OF_SS3: u8 = FINAL_OF_FUNCTION + SINGLE_SHIFT_THREE;
 
-const LAST_SHORT: u8 = 0x42;
+const SS2: u8 = BIT_8 + SINGLE_SHIFT_TWO;
 
-// The C1 functions are numbered 0 to 31; their finals begin at 4/0, and SS2 and SS3 are two of them.
-const FUNCTIONS: u8 = 32;
+const SS3: u8 = BIT_8 + SINGLE_SHIFT_THREE;
 
-pub(crate) const FINAL_OF_FUNCTION: u8 = 0x40;
-
-const FINAL_OF_SS2: u8 = 0x4E;
-
-const FINAL_OF_SS3: u8 = 0x4F;
-
-const SS2: u8 = 0x8E;
-
-const SS3: u8 = 0x8F;
-
-// What an item does: the state after it, a piece to write, which may be empty, and the place after it; or a refusal with its place.
+// What an item does: the state and the single shift after it, a piece to write, which may be empty, and the place after it; or a
+// refusal with its place.
 pub(crate) enum Turn {
     Writes(State, Single, Piece, usize),
     Stops(Refusal, usize),
@@ -200,7 +197,7 @@ fn of_g1(state: State, piece: Piece, place: usize) -> Turn
     }
 }
 
-// SS2 or SS3 before a character of G2 or G3.
+// 7-bit: SI or SO first where it is due; SS2 or SS3 always before a character of G2 or G3.
 fn in_seven(state: State, element: Element, bytes: PositionBytes, place: usize) -> Turn
     ensures { λ r. ⌜ did r ≡ wroteCharacter Form.Seven state element bytes place ⌝ }
 {

@@ -1,5 +1,5 @@
 -- The four ways that `ConvertedByTwoPasses` tells apart.
-use mathlib.Core.Path.{_≡_, sym, _∙_}
+use mathlib.Core.Path.{sym, _∙_}
 use borrow.Author.Needs.{needs}
 use Rattle.converter.specs.Passes.{otherThan}
 use Rattle.converter.proofs.ConvertedByTwoPasses.{too-long, refused-at, no-room, written}

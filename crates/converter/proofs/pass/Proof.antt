@@ -64,7 +64,7 @@ same-length : tie.Need-same-length Inv-loop μ-loop
 same-length c = at-run (c .before .before) .passing .as-long
 
 returns : tie.Need-returns Inv-loop μ-loop
-returns c = end-promised (at-run (c .before .before)) (c .before .if1 .taken) _ (c .ended .ensures)
+returns c = end-promised (at-run (c .before .before)) (c .before .if1 .taken) _ (c .at-the-end .ensures)
 
 turn-at-requires : tie.Need-turn-at-requires Inv-loop μ-loop
 turn-at-requires c κs = (c .if1 .left, called (c .before) .pre)
@@ -128,7 +128,7 @@ same-length-3 : tie.Need-same-length-3 Inv-loop μ-loop
 same-length-3 c = c .before .before .loop .inv .passing .as-long
 
 returns-3 : tie.Need-returns-3 Inv-loop μ-loop
-returns-3 c = end-promised (c .before .before .loop .inv) (c .before .loop-test .left) _ (c .ended2 .ensures)
+returns-3 c = end-promised (c .before .before .loop .inv) (c .before .loop-test .left) _ (c .at-the-end2 .ensures)
 
 pub pass-spec : {M : Type 1} → statement M
 pass-spec =

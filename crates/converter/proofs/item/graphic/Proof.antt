@@ -13,7 +13,7 @@ of-space c =
       ← sized .size-in .ensures,
       ← (rw (asked .before .kind-of .ensures) at (asked .byte-in .ensures)),
       c .before .enum-told .given .1,
-      c .blank .ensures,
+      c .not-of-set .ensures,
     )
 
 of-delete : tie.Need-returns-2
@@ -26,7 +26,7 @@ of-delete c =
       ← sized .size-in .ensures,
       ← (rw (asked .before .kind-of .ensures) at (asked .byte-in .ensures)),
       c .before .enum-told2 .given .1,
-      c .blank2 .ensures,
+      c .not-of-set2 .ensures,
     )
 
 of-set : tie.Need-returns-3
@@ -39,7 +39,7 @@ of-set c =
       ← sized .size-in .ensures,
       ← (rw (asked .before .kind-of .ensures) at (asked .byte-in .ensures)),
       c .before .enum-told3 .given .1,
-      c .whole .ensures,
+      c .whole-character .ensures,
     )
 
 outside : tie.Need-returns-4

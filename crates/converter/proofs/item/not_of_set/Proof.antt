@@ -1,10 +1,10 @@
--- An arm for each clause of `blankAt`.
+-- An arm for each clause of `notOfSetAt`.
 use borrow.Author.Needs.{needs}
-use Rattle.converter.proofs.item.blank.Statement.{statement}
-use Rattle.converter.proofs.item.blank.Tie as tie
+use Rattle.converter.proofs.item.not_of_set.Statement.{statement}
+use Rattle.converter.proofs.item.not_of_set.Tie as tie
 
-pub blank-spec : {M : Type 1} → statement M
-blank-spec =
+pub not-of-set-spec : {M : Type 1} → statement M
+not-of-set-spec =
     tie.close
     (tie.spec
     (λ c. search needs)

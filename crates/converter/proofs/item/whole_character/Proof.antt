@@ -1,10 +1,10 @@
 -- The bytes are those of `bytesAt`, or its refusal.
 use borrow.Author.Needs.{needs}
-use Rattle.converter.proofs.item.whole.Statement.{statement}
-use Rattle.converter.proofs.item.whole.Tie as tie
+use Rattle.converter.proofs.item.whole_character.Statement.{statement}
+use Rattle.converter.proofs.item.whole_character.Tie as tie
 
-pub whole-spec : {M : Type 1} → statement M
-whole-spec =
+pub whole-character-spec : {M : Type 1} → statement M
+whole-character-spec =
     tie.close
     (tie.spec
     (λ c κs. search needs)

@@ -1,10 +1,10 @@
--- An arm for each clause of `endedAt`.
+-- An arm for each clause of `atTheEnd`.
 use borrow.Author.Needs.{needs}
-use Rattle.converter.proofs.ended.Statement.{statement}
-use Rattle.converter.proofs.ended.Tie as tie
+use Rattle.converter.proofs.at_the_end.Statement.{statement}
+use Rattle.converter.proofs.at_the_end.Tie as tie
 
-pub ended-spec : {M : Type 1} → statement M
-ended-spec =
+pub at-the-end-spec : {M : Type 1} → statement M
+at-the-end-spec =
     tie.close
     (tie.spec
     (λ c. search needs)
