@@ -40,6 +40,51 @@ pub const OF_C1: u8 = 0x22;
 
 pub const SEVERAL: u8 = 0x24;
 
+// The seven intermediates that designate a graphic set.
+pub const OF_94_INTO_G0: u8 = 0x28;
+
+pub const OF_94_INTO_G1: u8 = 0x29;
+
+pub const OF_94_INTO_G2: u8 = 0x2A;
+
+pub const OF_94_INTO_G3: u8 = 0x2B;
+
+pub const OF_96_INTO_G1: u8 = 0x2D;
+
+pub const OF_96_INTO_G2: u8 = 0x2E;
+
+pub const OF_96_INTO_G3: u8 = 0x2F;
+
+// The intermediates of other sequences.
+pub const OTHER_BY_SPACE: u8 = 0x20;
+
+pub const OTHER_BY_NUMBER_SIGN: u8 = 0x23;
+
+pub const OTHER_BY_AMPERSAND: u8 = 0x26;
+
+// The finals of the shifts that have no other form.
+pub const FINAL_OF_LS2: u8 = 0x6E;
+
+pub const FINAL_OF_LS3: u8 = 0x6F;
+
+pub const FINAL_OF_LS1R: u8 = 0x7E;
+
+pub const FINAL_OF_LS2R: u8 = 0x7D;
+
+pub const FINAL_OF_LS3R: u8 = 0x7C;
+
+// Columns 4 and 5, and column 6: the finals of sets of two and of three bytes. With no intermediate those of C1 functions are of
+// columns 4 and 5 too.
+const LAST_BEFORE_FUNCTIONS: u8 = 0x3F;
+
+pub const FIRST_OF_TWO: u8 = 0x40;
+
+pub const LAST_OF_TWO: u8 = 0x5F;
+
+const FIRST_OF_THREE: u8 = 0x60;
+
+pub const LAST_OF_THREE: u8 = 0x6F;
+
 // The Final Bytes that take the short sequence.
 pub const FIRST_SHORT: u8 = 0x40;
 
@@ -90,11 +135,11 @@ fn shift_or_other(form: Form, last: u8) -> Meaning
     ensures { λ r. ⌜ r ≡ shiftOrOther form last ⌝ }
 {
     match last {
-        0x6E => Meaning::Shifts(Shift::LS2),
-        0x6F => Meaning::Shifts(Shift::LS3),
-        0x7E => right_shift(form, Shift::LS1R),
-        0x7D => right_shift(form, Shift::LS2R),
-        0x7C => right_shift(form, Shift::LS3R),
+        FINAL_OF_LS2 => Meaning::Shifts(Shift::LS2),
+        FINAL_OF_LS3 => Meaning::Shifts(Shift::LS3),
+        FINAL_OF_LS1R => right_shift(form, Shift::LS1R),
+        FINAL_OF_LS2R => right_shift(form, Shift::LS2R),
+        FINAL_OF_LS3R => right_shift(form, Shift::LS3R),
         _ => Meaning::Other,
     }
 }
@@ -103,13 +148,13 @@ fn shift_or_other(form: Form, last: u8) -> Meaning
 fn meaning_of_none(form: Form, last: u8) -> Meaning
     ensures { λ r. ⌜ r ≡ meaningOfNone form last ⌝ }
 {
-    if between(FIRST_FINAL, 0x3F, last) {
+    if between(FIRST_FINAL, LAST_BEFORE_FUNCTIONS, last) {
         return Meaning::Other;
     }
-    if between(FINAL_OF_FUNCTION, 0x5F, last) {
+    if between(FINAL_OF_FUNCTION, LAST_OF_TWO, last) {
         return c1_function(last - FINAL_OF_FUNCTION);
     }
-    if between(0x60, LAST_FINAL, last) {
+    if between(FIRST_OF_THREE, LAST_FINAL, last) {
         return shift_or_other(form, last);
     }
     Meaning::NoMeaning
@@ -120,13 +165,13 @@ fn designate_by(intermediate: u8, count: Count) -> Meaning
     ensures { λ r. ⌜ r ≡ designation intermediate count ⌝ }
 {
     match intermediate {
-        0x28 => Meaning::Designate(Element::G0, Kind::Of94, count),
-        0x29 => Meaning::Designate(Element::G1, Kind::Of94, count),
-        0x2A => Meaning::Designate(Element::G2, Kind::Of94, count),
-        0x2B => Meaning::Designate(Element::G3, Kind::Of94, count),
-        0x2D => Meaning::Designate(Element::G1, Kind::Of96, count),
-        0x2E => Meaning::Designate(Element::G2, Kind::Of96, count),
-        0x2F => Meaning::Designate(Element::G3, Kind::Of96, count),
+        OF_94_INTO_G0 => Meaning::Designate(Element::G0, Kind::Of94, count),
+        OF_94_INTO_G1 => Meaning::Designate(Element::G1, Kind::Of94, count),
+        OF_94_INTO_G2 => Meaning::Designate(Element::G2, Kind::Of94, count),
+        OF_94_INTO_G3 => Meaning::Designate(Element::G3, Kind::Of94, count),
+        OF_96_INTO_G1 => Meaning::Designate(Element::G1, Kind::Of96, count),
+        OF_96_INTO_G2 => Meaning::Designate(Element::G2, Kind::Of96, count),
+        OF_96_INTO_G3 => Meaning::Designate(Element::G3, Kind::Of96, count),
         _ => Meaning::NoMeaning,
     }
 }
@@ -147,9 +192,9 @@ fn by_intermediate(first: u8, last: u8) -> Meaning
     ensures { λ r. ⌜ r ≡ byIntermediate first last ⌝ }
 {
     match first {
-        0x20 => Meaning::Other,
-        0x23 => Meaning::Other,
-        0x26 => Meaning::Other,
+        OTHER_BY_SPACE => Meaning::Other,
+        OTHER_BY_NUMBER_SIGN => Meaning::Other,
+        OTHER_BY_AMPERSAND => Meaning::Other,
         OF_C0 => Meaning::DesignateControls(ControlElement::C0),
         OF_C1 => Meaning::DesignateControls(ControlElement::C1),
         SEVERAL => short_designation(last),
@@ -171,10 +216,10 @@ fn meaning_of_one(first: u8, last: u8) -> Meaning
 fn several_bytes(second: u8, last: u8) -> Meaning
     ensures { λ r. ⌜ r ≡ severalBytes second last ⌝ }
 {
-    if between(0x40, 0x5F, last) {
+    if between(FIRST_OF_TWO, LAST_OF_TWO, last) {
         return designate_by(second, Count::Two);
     }
-    if between(0x60, 0x6F, last) {
+    if between(FIRST_OF_THREE, LAST_OF_THREE, last) {
         return designate_by(second, Count::Three);
     }
     Meaning::NoMeaning
