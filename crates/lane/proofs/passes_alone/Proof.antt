@@ -1,0 +1,47 @@
+-- Above the plain bytes the bounds decide, and from SPACE on a plain byte is quiet.
+use Prim.Native.Nat.{ℕ, _<_, _≤_}
+use mathlib.Core.Path.{_≡_, refl}
+use mathlib.Core.Bool.{Bool, true, false}
+use native.Mathlib.Omega.{arith}
+use borrow.Author.Needs.{needs}
+use borrow.Author.Tests.{le-leb, lt-leb, ne-eqb}
+use lib.Dec.{leb}
+use Rattle.paper.specs.Choice.{_gives_or_, between}
+use Rattle.paper.specs.CodeTable.{so, si, esc}
+use Rattle.paper.proofs.Choices.{above-bounds}
+use Rattle.lane.specs.declared.Lane.{Lane}
+use Rattle.lane.specs.Passing.{isQuiet, passes}
+use Rattle.lane.proofs.passes_alone.Statement.{statement}
+use Rattle.lane.proofs.passes_alone.Tie as tie
+
+itself : (t : Bool) → t ≡ (t gives true or false)
+itself true = refl
+itself false = refl
+
+true-anyway : (t : Bool) → true ≡ (t gives true or true)
+true-anyway true = refl
+true-anyway false = refl
+
+below-bounds : (x : Lane) (b : ℕ) → x .plain < b → b < x .first → false ≡ passes x b
+unfolding passes between
+below-bounds x b h k = rw (lt-leb (x .first) b k, lt-leb b (x .plain) h)
+
+by-last : (x : Lane) (b : ℕ) → x .plain < b → x .first ≤ b → leb b (x .last) ≡ passes x b
+unfolding passes between
+by-last x b h k = rw (le-leb (x .first) b k, lt-leb b (x .plain) h) (itself (leb b (x .last)))
+
+plain-quiet : (x : Lane) (b : ℕ) → b ≤ x .plain → 32 ≤ b → true ≡ passes x b
+unfolding passes isQuiet
+plain-quiet x b h k =
+    rw (le-leb b (x .plain) h, ne-eqb b esc (λ e. omega arith), above-bounds so si b (omega arith) (omega arith))
+    (true-anyway (between (x .first) (x .last) b))
+
+pub passes-alone-spec : {M : Type 1} → statement M
+passes-alone-spec =
+    tie.close
+    (tie.spec
+    (λ c. below-bounds _ _ (omega arith) (omega arith))
+    (λ c. by-last _ _ (omega arith) (omega arith))
+    (λ c. plain-quiet _ _ (omega arith) (omega arith))
+    (λ c κs. search needs)
+    (λ c. search needs))
