@@ -14,11 +14,12 @@ use Rattle.paper.specs.declared.Converted.{Converted}
 use Rattle.paper.specs.declared.FirstRefusal.{FirstRefusal}
 use Rattle.paper.specs.declared.FirstRefusal.the-variants.{First}
 use Rattle.paper.proofs.Choices.{impossible}
-use Rattle.converter.specs.Passes.{otherThan, passedBy, atTheEnd}
+use Rattle.items.specs.OtherForm.{otherThan}
+use Rattle.items.specs.States.{standingOf}
+use Rattle.items.specs.declared.state.Single.{Single}
+use Rattle.items.specs.declared.state.State.{State}
+use Rattle.converter.specs.Passes.{passedBy, atTheEnd}
 use Rattle.converter.specs.Passing.{outputTo, Passes}
-use Rattle.converter.specs.States.{standingOf}
-use Rattle.converter.specs.declared.state.Single.{Single}
-use Rattle.converter.specs.declared.state.State.{State}
 use Rattle.converter.proofs.PassGoesOn.{passing-ends}
 
 -- the answer, and the buffer where the text is accepted and has room

@@ -23,8 +23,10 @@ use Rattle.paper.specs.declared.FirstRefusal.{FirstRefusal}
 use Rattle.paper.specs.declared.FirstRefusal.the-variants.{First}
 use Rattle.paper.proofs.LawfulAnswers.{IsInStep, Leaves, in-step-lawful, form-on}
 use Rattle.paper.proofs.WrittenTurnByTurn.{one-turn, sets-by-the-answer}
-use Rattle.converter.specs.Passes.{otherThan}
-use Rattle.converter.specs.Passing.{beside, restFrom, refusalFrom, outputTo, Passing}
+use Rattle.items.specs.OtherForm.{otherThan}
+use Rattle.items.specs.States.{beside}
+use Rattle.items.proofs.ItemsByBytes.{NoRefusal}
+use Rattle.converter.specs.Passing.{restFrom, refusalFrom, outputTo, Passing}
 use Rattle.converter.proofs.OverTheBuffer.{over-more}
 
 pub passing-starts : (to : Form) (text lent : List ℕ) → Passing to text lent (started (otherThan to)) Element.G0 0 0 lent
@@ -41,9 +43,6 @@ passing-starts to text lent = record {
 }
 
 -- ---- answers that are no refusals
-
-abbrev pub NoRefusal : Answer → Type 0
-NoRefusal a = (n : Refusal) → a ≡ Answer.Refused n → ⊥
 
 later-refusal : (a : Answer) (later : FirstRefusal) (at : ℕ) → NoRefusal a → refusalOr later at a ≡ later
 later-refusal Answer.NothingYet later at h = refl

@@ -1,7 +1,3 @@
-pub mod Pieces
-pub mod States
-pub mod Turns
 pub mod Passes
-pub mod Items
-pub mod Lanes
 pub mod Passing
+pub mod Runs

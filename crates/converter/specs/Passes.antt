@@ -1,21 +1,15 @@
 -- No rule of the paper: for the contracts of private functions.
 -- What a pass over a text answers: the first of 1 to 7, or the length of the output.
 use Prim.Native.Nat.{ℕ}
-use Rattle.paper.specs.declared.Form.{Form}
 use Rattle.paper.specs.declared.FirstRefusal.{FirstRefusal}
 use Rattle.paper.specs.declared.FirstRefusal.the-variants.{Never, First}
 use Rattle.paper.specs.declared.Converted.{Converted}
 use Rattle.paper.specs.declared.Refusal.{Refusal}
-use Rattle.converter.specs.declared.state.Single.{Single}
+use Rattle.items.specs.declared.state.Single.{Single}
 
 abbrev pub passedBy : FirstRefusal → ℕ → Converted
 passedBy Never n = Converted.Done n
 passedBy (First r at) n = Converted.Refused r at
-
--- a conversion is from the other form
-abbrev pub otherThan : Form → Form
-otherThan Form.Seven = Form.Eight
-otherThan Form.Eight = Form.Seven
 
 -- at the end of the text: 7 after a single shift
 abbrev pub atTheEnd : Single → ℕ → ℕ → Converted

@@ -9,21 +9,17 @@ use Rattle.paper.specs.Answering.{endOfText}
 use Rattle.paper.specs.Texts.{readerAfter, answersFrom}
 use Rattle.paper.specs.LentBuffers.{over}
 use Rattle.paper.specs.Surveying.{firstRefusal, firstOf}
-use Rattle.paper.specs.WrittenForms.{sequenceIn, Writer, writtenFrom}
+use Rattle.paper.specs.WrittenForms.{sequenceIn, writtenFrom}
 use Rattle.paper.specs.Conversions.{refusalAtEnd, refusalIn, output}
 use Rattle.paper.specs.declared.Form.{Form}
 use Rattle.paper.specs.declared.Element.{Element}
 use Rattle.paper.specs.declared.Reader.{Reader}
 use Rattle.paper.specs.declared.FirstRefusal.{FirstRefusal}
 use Rattle.paper.proofs.LawfulAnswers.{IsInStep}
-use Rattle.converter.specs.Passes.{otherThan}
-use Rattle.converter.specs.States.{stateOf, standingOf}
-use Rattle.converter.specs.declared.state.Single.{Single}
-use Rattle.converter.specs.declared.state.State.{State}
-
--- the writer beside a reader has the reader's sets
-abbrev pub beside : Reader → Element → Writer
-beside r gl = record { sets = r .sets; gl = gl }
+use Rattle.items.specs.OtherForm.{otherThan}
+use Rattle.items.specs.States.{stateOf, standingOf, beside}
+use Rattle.items.specs.declared.state.Single.{Single}
+use Rattle.items.specs.declared.state.State.{State}
 
 -- the rest of the output, and the refusal of what is left
 abbrev pub restFrom : Form → Reader → Element → ℕ → List ℕ → List ℕ

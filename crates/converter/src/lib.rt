@@ -1,33 +1,31 @@
 // The two conversions over lent buffers. Each reads its text twice, by one loop that both share: first into no room, for the first
 // refusal or the length of the output; then, where the output fits, into the buffer.
-mod item;
-mod lane;
-mod piece;
-mod state;
-mod written;
+mod put;
+mod run;
 
-use charsets::SPACE;
-use item::turn_at;
-use lane::copy_lane;
+use items::item::turn_at;
+use items::letter::is_letter;
+use items::letter::write_letter;
+use items::state::Single;
+use items::state::starting;
+use items::state::with_shown;
+use items::turn::Turn;
 use paper::Converted;
 use paper::Form;
 use paper::Refusal;
-use piece::put_if_room;
+use put::put_if_room;
 use refusals::LONGEST_TEXT;
-use state::Single;
-use state::State;
-use state::starting;
-use written::Turn;
-ghost use Prim.Native.Nat.{ℕ, _+_, _-_, _*_, _≤_, _<_};
+use run::begins_run;
+use run::copy_run;
+ghost use Prim.Native.Nat.{_≤_};
 ghost use mathlib.Core.Path.{_≡_};
-ghost use mathlib.Core.List.{List};
 ghost use lib.ListN.{length};
 ghost use Rattle.paper.specs.Refusals.{longestText};
 ghost use Rattle.paper.specs.LentBuffers.{over};
 ghost use Rattle.paper.specs.Conversions.{refusalIn, Accepted, output, conversion, bufferAfter};
 ghost use Rattle.paper.specs.declared.Form.{Form};
-ghost use Rattle.converter.specs.Passes.{otherThan, passedBy, atTheEnd};
-ghost use Rattle.converter.specs.Passing.{Passes};
+ghost use Rattle.items.specs.OtherForm.{otherThan};
+ghost use Rattle.converter.specs.Passes.{passedBy, atTheEnd};
 
 // The text in 8-bit form to 7-bit form: the length of what was written, or a refusal with its place and nothing written.
 pub fn to_seven(text: &[u8], buffer: &mut [u8]) -> Converted
@@ -43,16 +41,6 @@ pub fn to_eight(text: &[u8], buffer: &mut [u8]) -> Converted
     ensures { λ _. ⌜ now (buffer .exit) ≡ bufferAfter Form.Seven Form.Eight (now (text .entry)) (now (buffer .entry)) ⌝ }
 {
     converted(Form::Eight, text, buffer)
-}
-
-// The form that a text is in which is converted to this one.
-fn other_than(form: Form) -> Form
-    ensures { λ r. ⌜ r ≡ otherThan form ⌝ }
-{
-    match form {
-        Form::Seven => Form::Eight,
-        Form::Eight => Form::Seven,
-    }
 }
 
 // 8 first, then what the text is refused by, then 9.
@@ -91,21 +79,32 @@ fn pass(to: Form, text: &[u8], buffer: &mut [u8]) -> Converted
     let mut at: usize = 0;
     let mut place: usize = 0;
     while place < text.len() {
-        let run = copy_run(to, state, single, text, place, buffer, at);
-        at += run - place;
-        place = run;
-        if place >= text.len() {
-            return at_the_end(single, at, place);
-        }
-        match turn_at(to, state, single, text, place) {
-            Turn::Writes(next, shifted, piece, there) => {
+        let byte = text[place];
+        if is_letter(to, state, single, byte) {
+            if begins_run(to, state, text, place) {
+                let run = copy_run(to, state, text, place, buffer, at);
+                at = run.at;
+                place = run.place;
+            } else {
+                let letter = write_letter(to, state, byte);
+                let piece = letter.piece;
+                let shown = letter.shown;
                 put_if_room(buffer, at, piece);
                 at += piece.count;
-                state = next;
-                single = shifted;
-                place = there;
+                state = with_shown(state, shown);
+                place += 1;
             }
-            Turn::Stops(refusal, there) => return Converted::Refused(refusal, there),
+        } else {
+            match turn_at(to, state, single, text, place) {
+                Turn::Writes(next, shifted, _, piece, there) => {
+                    put_if_room(buffer, at, piece);
+                    at += piece.count;
+                    state = next;
+                    single = shifted;
+                    place = there;
+                }
+                Turn::Stops(refusal, there) => return Converted::Refused(refusal, there),
+            }
         }
     }
     at_the_end(single, at, place)
@@ -120,28 +119,4 @@ fn at_the_end(single: Single, at: usize, place: usize) -> Converted
         Single::OfG2 => Converted::Refused(Refusal::EndsInside, place),
         Single::OfG3 => Converted::Refused(Refusal::EndsInside, place),
     }
-}
-
-// A run of the lane from a place on: the place after it. No control and no SPACE is of the lane, so none is made for them.
-fn copy_run(
-    to: Form,
-    state: State,
-    single: Single,
-    text: &[u8],
-    place: usize,
-    buffer: &mut [u8],
-    at: usize,
-) -> usize
-    requires { ⌜ (place < length (now text)) × (length (now text) ≤ longestText) × (at ≤ 3 * longestText) ⌝ }
-    ensures { λ r. ⌜ (place ≤ r) × (r ≤ length (now (text .entry))) ⌝ }
-    ensures { λ r. ⌜
-        ((lent : List ℕ) →
-        Passes to (now (text .entry)) lent state single at place (now (buffer .entry)) →
-        Passes to (now (text .entry)) lent state single (at + (r - place)) r (now (buffer .exit)))
-        ⌝ }
-{
-    if text[place] > SPACE {
-        return copy_lane(to, state, single, text, place, buffer, at);
-    }
-    place
 }

@@ -1,7 +1,7 @@
 -- The four ways that `ConvertedByTwoPasses` tells apart.
 use mathlib.Core.Path.{sym, _∙_}
 use borrow.Author.Needs.{needs}
-use Rattle.converter.specs.Passes.{otherThan}
+use Rattle.items.specs.OtherForm.{otherThan}
 use Rattle.converter.proofs.ConvertedByTwoPasses.{too-long, refused-at, no-room, written}
 use Rattle.converter.proofs.converted.Statement.{statement}
 use Rattle.converter.proofs.converted.Tie as tie

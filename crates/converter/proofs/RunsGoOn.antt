@@ -1,0 +1,102 @@
+-- A pass goes on over bytes that are copied one after another, by the law of a turn for each.
+use Prim.Native.Nat.{ℕ, zero, suc, _+_, _≤_, _<_}
+use mathlib.Core.Path.{_≡_, refl, sym, ap, _∙_, subst}
+use mathlib.Core.Bool.{true}
+use mathlib.Core.List.{List, [], _∷_, _++_}
+use native.Mathlib.Nat.{add-zero, add-suc, suc-add}
+use native.Mathlib.Numerals.{add-one}
+use native.Mathlib.Omega.{arith}
+use lib.ListN.{length, length-append, getD, set}
+use lib.Seq.{sets, length-sets}
+use Rattle.paper.specs.declared.Form.{Form}
+use Rattle.lane.specs.Passing.{passes}
+use Rattle.items.specs.declared.state.Single.{Single}
+use Rattle.items.specs.declared.state.State.{State}
+use Rattle.converter.specs.Passing.{restFrom, outputTo, Passes}
+use Rattle.converter.specs.Runs.{copiedBy, copiedBytes, Copies}
+use Rattle.converter.specs.declared.run.Way.{Way}
+use Rattle.converter.proofs.PassByTurns.{turn-goes-on}
+
+-- ---- bytes stored after others
+
+pub sets-more : (l : List ℕ) (i : ℕ) (bytes more : List ℕ) → sets l i (bytes ++ more) ≡ sets (sets l i bytes) (i + length bytes) more
+sets-more l i [] more = ap (λ (n : ℕ). sets l n more) (sym (add-zero i))
+sets-more l i (b ∷ bytes) more =
+    sets-more (set l i b) (suc i) bytes more ∙
+    ap (λ (n : ℕ). sets (sets (set l i b) (suc i) bytes) n more) (suc-add i (length bytes) ∙ sym (add-suc i (length bytes)))
+
+pub copied-length : (way : Way) (text : List ℕ) (place n : ℕ) → length (copiedBytes way text place n) ≡ n
+copied-length way text place zero = refl
+copied-length way text place (suc n) =
+    length-append (copiedBytes way text place n) (copiedBy way (getD text (place + n) 0) ∷ []) ∙
+    ap (λ (k : ℕ). k + 1) (copied-length way text place n) ∙
+    add-one n
+
+-- one byte more
+pub copied-more : (way : Way) (text buffer : List ℕ) (place at n : ℕ) →
+    set (sets buffer at (copiedBytes way text place n)) (at + n) (copiedBy way (getD text (place + n) 0)) ≡
+    sets buffer at (copiedBytes way text place (suc n))
+copied-more way text buffer place at n =
+    let bytes = copiedBytes way text place n in
+    let copy = copiedBy way (getD text (place + n) 0) in
+    ap (λ (k : ℕ). set (sets buffer at bytes) (at + k) copy) (sym (copied-length way text place n)) ∙
+    sym (sets-more buffer at bytes (copy ∷ []))
+
+-- ---- a pass goes on
+
+-- a buffer without room for what was written so far has none for the output
+stays : {to : Form} {text lent : List ℕ} {s : State} {t : Single} {at place : ℕ} {buffer : List ℕ} →
+    Passes to text lent s t at place buffer → (after : List ℕ) → length after ≡ length buffer → (at ≤ length lent → after ≡ buffer) →
+    Passes to text lent s t at place after
+stays {to} {text} {lent} {s} {t} {at} {place} p after long stored =
+    let q = p .passing in
+    let rest = restFrom to (p .reader) (p .shown) place text in
+    let most : at ≤ length (outputTo to text) = omega (arith, q .counted, ap length (q .whole), length-append (q .so-far) rest) in
+    record {
+      reader = p .reader;
+      shown = p .shown;
+      has = p .has;
+      stands = p .stands;
+      passing = record {
+        within = q .within;
+        in-step = q .in-step;
+        form = q .form;
+        refused = q .refused;
+        so-far = q .so-far;
+        whole = q .whole;
+        counted = q .counted;
+        as-long = long ∙ q .as-long;
+        wrote = λ h. stored (omega arith) ∙ q .wrote h;
+      };
+    }
+
+module _ {to : Form} {text lent : List ℕ} {s : State} {way : Way} (copies : Copies to s text way) where
+  pub byte-goes-on : {at place : ℕ} {buffer : List ℕ} → place < length text → passes (way .lane) (getD text place 0) ≡ true →
+      Passes to text lent s Single.Not at place buffer → (after : List ℕ) → length after ≡ length buffer →
+      (at + 1 ≤ length lent → after ≡ set buffer at (copiedBy way (getD text place 0))) →
+      Passes to text lent s Single.Not (at + 1) (place + 1) after
+  byte-goes-on {at} {place} inside passed p after long stored =
+      let copied = copies place inside passed in
+      turn-goes-on p inside s Single.Not (copied .word) (copiedBy way (getD text place 0) ∷ []) (place + 1) (copied .turns)
+      after long stored
+
+  pub block-goes-on : (n : ℕ) {at place : ℕ} {buffer : List ℕ} → place + n ≤ length text →
+      ((k : ℕ) → k < n → passes (way .lane) (getD text (place + k) 0) ≡ true) →
+      Passes to text lent s Single.Not at place buffer → (after : List ℕ) → length after ≡ length buffer →
+      (at + n ≤ length lent → after ≡ sets buffer at (copiedBytes way text place n)) →
+      Passes to text lent s Single.Not (at + n) (place + n) after
+  block-goes-on zero {at} {place} inside passed p after long stored =
+      subst (λ (n : ℕ). Passes to text lent s Single.Not (at + 0) n after) (sym (add-zero place))
+      (subst (λ (n : ℕ). Passes to text lent s Single.Not n place after) (sym (add-zero at))
+      (stays p after long (λ h. stored (omega arith))))
+  block-goes-on (suc n) {at} {place} {buffer} inside passed p after long stored =
+      let bytes = copiedBytes way text place n in
+      let q : place + suc n ≡ place + n + 1 = omega arith in
+      let r : at + suc n ≡ at + n + 1 = omega arith in
+      let before : Passes to text lent s Single.Not (at + n) (place + n) (sets buffer at bytes) =
+      block-goes-on n (omega arith) (λ k h. passed k (omega arith)) p (sets buffer at bytes)
+      (length-sets buffer at bytes) (λ h. refl) in
+      subst (λ (k : ℕ). Passes to text lent s Single.Not k (place + suc n) after) (sym r)
+      (subst (λ (k : ℕ). Passes to text lent s Single.Not (at + n + 1) k after) (sym q)
+      (byte-goes-on (omega arith) (passed n (omega arith)) before after (long ∙ sym (length-sets buffer at bytes))
+      (λ h. stored (omega arith) ∙ sym (copied-more way text buffer place at n))))

@@ -1,0 +1,16 @@
+pub mod AreasOfBytes
+pub mod BytesInANumber
+pub mod CharactersGoOn
+pub mod ControlsGoOn
+pub mod DesignationsBySize
+pub mod FirstBytes
+pub mod FoundInside
+pub mod InsideSequences
+pub mod ItemsByBytes
+pub mod ItemsGoOn
+pub mod LettersAsWritten
+pub mod LettersByTheirBytes
+pub mod PositionsOfEverySet
+pub mod SequencesGoOn
+pub mod ShiftsIntoGR
+pub mod TurnsOfBytes
