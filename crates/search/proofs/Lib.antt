@@ -1,2 +1,3 @@
-pub mod OpeningBytes
 pub mod MatchGoesOn
+pub mod OpeningBytes
+pub mod SearchOverAText

@@ -1,1 +1,2 @@
 pub mod NextMatch
+pub mod NextOpening

@@ -16,6 +16,7 @@ ghost use Rattle.paper.specs.Searching.{matchedWith, oneMore};
 ghost use Rattle.paper.specs.Characters.{lostWith};
 ghost use Rattle.paper.specs.Answering.{answerSearching, answerLost};
 ghost use Rattle.search.specs.NextMatch.{openingAt, endAt, begun, begunAfter, begunAt};
+ghost use Rattle.search.specs.NextOpening.{openingAfter};
 
 // The bytes with which both openings begin.
 const COMMON: u8 = 18;
@@ -180,4 +181,30 @@ pub fn answer_lost(matched: u8, skipped: u16, byte: u8, reader: Reader) -> Answe
 {
     let form = reader.form;
     answer_searching(matched_with(form, matched, byte), one_more(skipped), reader)
+}
+
+// Where the next opening ends, or that none comes.
+pub enum Opening {
+    Ends(usize),
+    Missing,
+}
+
+// The search of a reader that was refused at a place: the place after the opening.
+pub fn opening_after(form: Form, text: &[u8], place: usize) -> Opening
+    ensures { λ r. ⌜ r ≡ openingAfter form (now (text .entry)) place ⌝ }
+{
+    if place >= text.len() {
+        return Opening::Missing;
+    }
+    let whole = opening_length(form);
+    let mut matched = begun(text[place]);
+    let mut here = place + 1;
+    while here < text.len() {
+        matched = matched_with(form, matched, text[here]);
+        here += 1;
+        if matched == whole {
+            return Opening::Ends(here);
+        }
+    }
+    Opening::Missing
 }
