@@ -1,12 +1,12 @@
--- While a text is read: what is counted so far and what the rest of the text has make what the whole text has, for every word
--- at once; likewise the first refusal and the end.
+-- While a text is read, byte by byte: an answer that has a figure is counted, another one changes no count, and at the end of the
+-- text everything is counted.
 use Prim.Native.Nat.{ℕ, zero, suc, _+_, _<_, _≤_}
 use mathlib.Core.Path.{_≡_, refl, sym, ap, _∙_, subst}
 use mathlib.Core.Bool.{Bool, true, false}
 use mathlib.Core.List.{List, [], _∷_}
 use native.Mathlib.Omega.{arith}
 use native.Mathlib.Numerals.{add-one}
-use borrow.Author.Tests.{eqb-true, eqb-false}
+use borrow.Author.Tests.{eqb-true, eqb-false, ne-eqb}
 use lib.Dec.{eqb}
 use lib.ListN.{length, drop, getD, set, replicate, length-set, drop-of-length-le}
 use lib.Seq.{drop-cons, getD-set-same, getD-set-other}
@@ -15,16 +15,17 @@ use Rattle.paper.specs.Results.{wordOf, charWord, spaceWord, deleteWord, contro
 use Rattle.paper.specs.Results.{otherWord, refusedWord, instepWord}
 use Rattle.paper.specs.Starting.{started}
 use Rattle.paper.specs.Answering.{answerTo, endOfText}
-use Rattle.paper.specs.Texts.{Placed, readerAfter, answersFrom}
+use Rattle.paper.specs.Texts.{Placed, readerAfter, answersFrom, answersOf, endWord}
 use Rattle.paper.specs.Surveying.{howMany, refusalOr, firstRefusal, firstOf, figuresOf}
 use Rattle.paper.specs.declared.Form.{Form}
 use Rattle.paper.specs.declared.Reader.{Reader}
 use Rattle.paper.specs.declared.EndWord.{EndWord}
-use Rattle.paper.specs.declared.Figures.{Figures}
+use Rattle.paper.specs.declared.Refusal.{Refusal}
 use Rattle.paper.specs.declared.Answer.{Answer}
 use Rattle.paper.specs.declared.Answered.{Answered}
 use Rattle.paper.specs.declared.FirstRefusal.{FirstRefusal}
 use Rattle.paper.specs.declared.FirstRefusal.the-variants.{Never, First}
+use Rattle.figures.specs.Counting.{HasFigure, Counting, figuresFrom}
 
 -- there are eleven words
 pub word-below : (a : Answer) → wordOf a < 11
@@ -41,42 +42,28 @@ word-below (Answer.Refused n) = omega arith
 word-below Answer.Skipped = omega arith
 word-below (Answer.InStep n) = omega arith
 
--- no word has more answers than the text has bytes
-more : (t : Bool) (n k : ℕ) → n ≤ k → (t gives suc n or n) ≤ suc k
-more true n k h = omega arith
-more false n k h = omega arith
-
-pub how-many-within : (w at : ℕ) (r : Reader) (l : List ℕ) → howMany w (answersFrom at r l) ≤ length l
-how-many-within w at r [] = omega arith
-how-many-within w at r (b ∷ bs) =
-    more (eqb (wordOf (answerTo r b .answer)) w) (howMany w (answersFrom (suc at) (answerTo r b .reader) bs)) (length bs)
-    (how-many-within w (suc at) (answerTo r b .reader) bs)
-
-pub record Counting (start : Reader) (l : List ℕ) (r : Reader) (counts : List ℕ) (first : FirstRefusal) (place : ℕ) : Type 0 where
-  pub within : place ≤ length l
-  pub words : length counts ≡ 11
-  pub counted : (w : ℕ) → getD counts w 0 + howMany w (answersFrom place r (drop place l)) ≡ howMany w (answersFrom 0 start l)
-  pub refused : firstOf first (firstRefusal (answersFrom place r (drop place l))) ≡ firstRefusal (answersFrom 0 start l)
-  pub ends : endOfText (readerAfter r (drop place l)) ≡ endOfText (readerAfter start l)
-
 zeros : (n w : ℕ) → _≡_ {A = ℕ} (getD (replicate n 0) w 0) 0
 zeros zero w = refl
 zeros (suc n) zero = refl
 zeros (suc n) (suc w) = zeros n w
 
-pub counting-starts : (start : Reader) (l : List ℕ) → Counting start l start (replicate 11 0) Never 0
-counting-starts start l = record {
+pub counting-starts : (form : Form) (text : List ℕ) → Counting form text (started form) (replicate 11 0) Never 0
+counting-starts form text = record {
   within = omega arith;
   words = refl;
-  counted = λ w. rw (zeros 11 w) (omega arith);
+  bounded = λ w. rw (zeros 11 w) (omega arith);
+  counted = λ w figure. rw (zeros 11 w) (omega arith);
   refused = refl;
   ends = refl;
 }
 
--- an answer more
-one-more : (counts : List ℕ) (k w n : ℕ) → k < length counts →
-    getD (set counts k (getD counts k 0 + 1)) w 0 + n ≡ getD counts w 0 + (eqb k w gives suc n or n)
-one-more counts k w n h = by (eqb k w) refl
+-- counts that have one answer more
+abbrev OneMore : ℕ → List ℕ → List ℕ → Type 0
+OneMore k counts after =
+    (w : ℕ) → HasFigure w → (n : ℕ) → getD after w 0 + n ≡ getD counts w 0 + (eqb k w gives suc n or n)
+
+one-more : (counts : List ℕ) (k : ℕ) → k < length counts → OneMore k counts (set counts k (getD counts k 0 + 1))
+one-more counts k h w figure n = by (eqb k w) refl
   where
     by : (t : Bool) → eqb k w ≡ t → getD (set counts k (getD counts k 0 + 1)) w 0 + n ≡ getD counts w 0 + (t gives suc n or n)
     by true e =
@@ -87,7 +74,27 @@ one-more counts k w n h = by (eqb k w) refl
         let other : w ≡ k → ⊥ = λ q. eqb-false k w e (sym q) in
         rw (getD-set-other counts k w (getD counts k 0 + 1) 0 other)
 
-pub first-last : (first : FirstRefusal) → firstOf first Never ≡ first
+most-more : (counts : List ℕ) (k most : ℕ) → k < length counts → ((w : ℕ) → getD counts w 0 ≤ most) →
+    (w : ℕ) → getD (set counts k (getD counts k 0 + 1)) w 0 ≤ suc most
+most-more counts k most h bound w = by (eqb k w) refl
+  where
+    by : (t : Bool) → eqb k w ≡ t → getD (set counts k (getD counts k 0 + 1)) w 0 ≤ suc most
+    by true e =
+        let now : getD (set counts k (getD counts k 0 + 1)) k 0 ≡ getD counts k 0 + 1 = getD-set-same counts k (getD counts k 0 + 1) 0 h in
+        let most-here = bound k in
+        subst (λ (j : ℕ). getD (set counts k (getD counts k 0 + 1)) j 0 ≤ suc most) (eqb-true k w e) (omega arith)
+    by false e =
+        let other : w ≡ k → ⊥ = λ q. eqb-false k w e (sym q) in
+        let most-here = bound w in
+        rw (getD-set-other counts k w (getD counts k 0 + 1) 0 other) (omega arith)
+
+-- where the word has no figure the counts need not change
+none-more : (counts : List ℕ) (k : ℕ) → (HasFigure k → ⊥) → OneMore k counts counts
+none-more counts k no-figure w figure n =
+    ap (λ (t : Bool). getD counts w 0 + (t gives suc n or n))
+    (sym (ne-eqb k w (λ e. no-figure (subst HasFigure (sym e) figure))))
+
+first-last : (first : FirstRefusal) → firstOf first Never ≡ first
 first-last Never = refl
 first-last (First n at) = refl
 
@@ -107,103 +114,103 @@ first-more Never later at Answer.Skipped = refl
 first-more Never later at (Answer.InStep n) = refl
 first-more (First n k) later at a = refl
 
-module _ {start r : Reader} {l counts : List ℕ} {first : FirstRefusal} {place : ℕ} (c : Counting start l r counts first place) where
-  -- a count cannot pass the length of the text
-  pub count-within : (w : ℕ) → getD counts w 0 ≤ length l
-  count-within w = let h = how-many-within w 0 start l in let e = c .counted w in omega arith
+-- an answer that is no refusal leaves the first one
+pub first-stays : (first : FirstRefusal) (at : ℕ) (a : Answer) → ((n : Refusal) → a ≡ Answer.Refused n → ⊥) →
+    firstOf first (refusalOr Never at a) ≡ first
+first-stays first at Answer.NothingYet other = first-last first
+first-stays first at (Answer.Char e x p) other = first-last first
+first-stays first at Answer.Space other = first-last first
+first-stays first at Answer.Delete other = first-last first
+first-stays first at (Answer.Control w f n) other = first-last first
+first-stays first at (Answer.DesignateControls w f) other = first-last first
+first-stays first at (Answer.Designate e x) other = first-last first
+first-stays first at (Answer.Shift h) other = first-last first
+first-stays first at (Answer.Other s f) other = first-last first
+first-stays first at (Answer.Refused n) other = absurd (other n refl)
+first-stays first at Answer.Skipped other = first-last first
+first-stays first at (Answer.InStep n) other = first-last first
 
-  next-answers : place < length l → answersFrom place r (drop place l) ≡
-      record { offset = place; answer = answerTo r (getD l place 0) .answer } ∷
-      answersFrom (suc place) (answerTo r (getD l place 0) .reader) (drop (suc place) l)
-  next-answers h = rw (drop-cons l place 0 h)
+module _ {form : Form} {text : List ℕ} {r : Reader} {counts : List ℕ} {first : FirstRefusal} {place : ℕ}
+    (c : Counting form text r counts first place) where
+  -- ---- a byte
 
-  pub counting-goes-on : (a : Answered) → place < length l → a ≡ answerTo r (getD l place 0) →
-      Counting start l (a .reader) (set counts (wordOf (a .answer)) (getD counts (wordOf (a .answer)) 0 + 1))
-      (firstOf first (refusalOr Never place (a .answer))) (place + 1)
-  counting-goes-on a h e = rw (e, add-one place) (record {
-    within = h;
-    words = length-set counts k (getD counts k 0 + 1) ∙ c .words;
-    counted = λ w.
-        one-more counts k w (howMany w rest) (let s = c .words in let b = word-below (answerTo r (getD l place 0) .answer) in omega arith) ∙
-        (ap (λ (x : List Placed). getD counts w 0 + howMany w x) (sym (next-answers h)) ∙ c .counted w);
-    refused =
-        first-more first (firstRefusal rest) place (answerTo r (getD l place 0) .answer) ∙
-        (ap (λ (x : List Placed). firstOf first (firstRefusal x)) (sym (next-answers h)) ∙ c .refused);
-    ends = ap (λ (x : List ℕ). endOfText (readerAfter r x)) (sym (drop-cons l place 0 h)) ∙ c .ends;
-  })
-    where
-      k : ℕ
-      k = wordOf (answerTo r (getD l place 0) .answer)
+  module _ (a : Answered) (inside : place < length text) (answers : answerTo r (getD text place 0) ≡ a) where
+    abbrev rest : List Placed
+    rest = answersFrom (suc place) (a .reader) (drop (suc place) text)
 
-      rest : List Placed
-      rest = answersFrom (suc place) (answerTo r (getD l place 0) .reader) (drop (suc place) l)
+    next-answers : answersFrom place r (drop place text) ≡ record { offset = place; answer = a .answer } ∷ rest
+    next-answers = rw (drop-cons text place 0 inside, answers)
 
-  -- at the end of the text
-  nothing-left : length l ≤ place → drop place l ≡ []
-  nothing-left h = drop-of-length-le l h
+    next-reader : readerAfter r (drop place text) ≡ readerAfter (a .reader) (drop (suc place) text)
+    next-reader =
+        ap (readerAfter r) (drop-cons text place 0 inside) ∙
+        ap (λ (x : Answered). readerAfter (x .reader) (drop (suc place) text)) answers
 
-  pub all-counted : length l ≤ place → (w : ℕ) → getD counts w 0 ≡ howMany w (answersFrom 0 start l)
-  all-counted h w =
-      let e : getD counts w 0 + 0 ≡ howMany w (answersFrom 0 start l) =
-      subst (λ (x : List ℕ). getD counts w 0 + howMany w (answersFrom place r x) ≡ howMany w (answersFrom 0 start l))
-      (nothing-left h) (c .counted w) in
-      omega arith
+    goes-on : (after : List ℕ) → length after ≡ 11 → ((w : ℕ) → getD after w 0 ≤ suc place) → OneMore (wordOf (a .answer)) counts after →
+        Counting form text (a .reader) after (firstOf first (refusalOr Never place (a .answer))) (place + 1)
+    goes-on after eleven bound one =
+        subst (λ (p : ℕ). Counting form text (a .reader) after (firstOf first (refusalOr Never place (a .answer))) p) (sym (add-one place))
+        (record {
+          within = inside;
+          words = eleven;
+          bounded = bound;
+          counted = λ w figure.
+              one w figure (howMany w rest) ∙
+              ap (λ (x : List Placed). getD counts w 0 + howMany w x) (sym next-answers) ∙ c .counted w figure;
+          refused =
+              first-more first (firstRefusal rest) place (a .answer) ∙
+              ap (λ (x : List Placed). firstOf first (firstRefusal x)) (sym next-answers) ∙ c .refused;
+          ends = ap endOfText (sym next-reader) ∙ c .ends;
+        })
 
-  pub first-found : length l ≤ place → first ≡ firstRefusal (answersFrom 0 start l)
-  first-found h =
-      sym (first-last first) ∙
-      (ap (λ (x : List ℕ). firstOf first (firstRefusal (answersFrom place r x))) (sym (nothing-left h)) ∙ c .refused)
+    pub counts-more : Counting form text (a .reader) (set counts (wordOf (a .answer)) (getD counts (wordOf (a .answer)) 0 + 1))
+        (firstOf first (refusalOr Never place (a .answer))) (place + 1)
+    counts-more =
+        let k : ℕ = wordOf (a .answer) in
+        let below : k < length counts = let e = c .words in let b = word-below (a .answer) in omega arith in
+        goes-on (set counts k (getD counts k 0 + 1)) (length-set counts k (getD counts k 0 + 1) ∙ c .words)
+        (most-more counts k place below (c .bounded)) (one-more counts k below)
 
-  pub end-reached : length l ≤ place → endOfText r ≡ endOfText (readerAfter start l)
-  end-reached h = ap (λ (x : List ℕ). endOfText (readerAfter r x)) (sym (nothing-left h)) ∙ c .ends
+    pub counts-no-more : (HasFigure (wordOf (a .answer)) → ⊥) →
+        Counting form text (a .reader) counts (firstOf first (refusalOr Never place (a .answer))) (place + 1)
+    counts-no-more no-figure =
+        goes-on counts (c .words) (λ w. let h = c .bounded w in omega arith) (none-more counts (wordOf (a .answer)) no-figure)
 
--- the figures of a text from a reader, and from what is counted
-abbrev figuresFrom : List ℕ → Reader → Figures
-figuresFrom l start = record {
-  characters = howMany charWord (answersFrom 0 start l);
-  spaces = howMany spaceWord (answersFrom 0 start l);
-  deletes = howMany deleteWord (answersFrom 0 start l);
-  controls = howMany controlWord (answersFrom 0 start l);
-  designations = howMany designateWord (answersFrom 0 start l);
-  shifts = howMany shiftWord (answersFrom 0 start l);
-  others = howMany otherWord (answersFrom 0 start l);
-  refusals = howMany refusedWord (answersFrom 0 start l);
-  insteps = howMany instepWord (answersFrom 0 start l);
-  first = firstRefusal (answersFrom 0 start l);
-  end = endOfText (readerAfter start l);
-}
+  -- ---- at the end of the text
 
-abbrev figuresBy : List ℕ → FirstRefusal → EndWord → Figures
-figuresBy counts first end = record {
-  characters = getD counts charWord 0;
-  spaces = getD counts spaceWord 0;
-  deletes = getD counts deleteWord 0;
-  controls = getD counts controlWord 0;
-  designations = getD counts designateWord 0;
-  shifts = getD counts shiftWord 0;
-  others = getD counts otherWord 0;
-  refusals = getD counts refusedWord 0;
-  insteps = getD counts instepWord 0;
-  first = first;
-  end = end;
-}
+  module _ (past : length text ≤ place) where
+    nothing-left : drop place text ≡ []
+    nothing-left = drop-of-length-le text past
 
-pub all-figures : {start r : Reader} {l counts : List ℕ} {first : FirstRefusal} {place : ℕ} {m : Form} {end : EndWord} →
-    Counting start l r counts first place → start ≡ started m → length l ≤ place → end ≡ endOfText r →
-    figuresBy counts first end ≡ figuresOf m l
-all-figures {l = l} c s h e =
-    let last = e ∙ end-reached c h in
-    (λ i. record {
-      characters = all-counted c h charWord i;
-      spaces = all-counted c h spaceWord i;
-      deletes = all-counted c h deleteWord i;
-      controls = all-counted c h controlWord i;
-      designations = all-counted c h designateWord i;
-      shifts = all-counted c h shiftWord i;
-      others = all-counted c h otherWord i;
-      refusals = all-counted c h refusedWord i;
-      insteps = all-counted c h instepWord i;
-      first = first-found c h i;
-      end = last i;
-    }) ∙
-    ap (figuresFrom l) s
+    all-counted : (w : ℕ) → HasFigure w → getD counts w 0 ≡ howMany w (answersOf form text)
+    all-counted w figure =
+        let e : getD counts w 0 + 0 ≡ howMany w (answersOf form text) =
+        subst (λ (x : List ℕ). getD counts w 0 + howMany w (answersFrom place r x) ≡ howMany w (answersOf form text))
+        nothing-left (c .counted w figure) in
+        omega arith
+
+    first-found : first ≡ firstRefusal (answersOf form text)
+    first-found =
+        sym (first-last first) ∙
+        ap (λ (x : List ℕ). firstOf first (firstRefusal (answersFrom place r x))) (sym nothing-left) ∙ c .refused
+
+    end-reached : endOfText r ≡ endWord form text
+    end-reached = ap (λ (x : List ℕ). endOfText (readerAfter r x)) (sym nothing-left) ∙ c .ends
+
+    figure-of : (w : ℕ) → (w ≡ 0 → ⊥) → (w ≡ 9 → ⊥) → howMany w (answersOf form text) ≡ getD counts w 0
+    figure-of w some no-skip = sym (all-counted w (record { not-nothing-yet = some; not-skipped = no-skip }))
+
+    pub all-figures : (end : EndWord) → endOfText r ≡ end → figuresOf form text ≡ figuresFrom counts first end
+    all-figures end is = λ i. record {
+      characters = figure-of charWord (λ e. omega arith) (λ e. omega arith) i;
+      spaces = figure-of spaceWord (λ e. omega arith) (λ e. omega arith) i;
+      deletes = figure-of deleteWord (λ e. omega arith) (λ e. omega arith) i;
+      controls = figure-of controlWord (λ e. omega arith) (λ e. omega arith) i;
+      designations = figure-of designateWord (λ e. omega arith) (λ e. omega arith) i;
+      shifts = figure-of shiftWord (λ e. omega arith) (λ e. omega arith) i;
+      others = figure-of otherWord (λ e. omega arith) (λ e. omega arith) i;
+      refusals = figure-of refusedWord (λ e. omega arith) (λ e. omega arith) i;
+      insteps = figure-of instepWord (λ e. omega arith) (λ e. omega arith) i;
+      first = sym first-found i;
+      end = (sym end-reached ∙ is) i;
+    }

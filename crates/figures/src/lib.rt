@@ -1,43 +1,41 @@
-// What a text has: its figures, in one pass over a lent text.
-use paper::Answer;
+// What a text has: its figures, in one pass over a lent text. Items are read whole, and runs of the lane are counted sixteen bytes at
+// a time.
+mod run;
+
+use items::item::turn_at;
+use items::letter::is_letter;
+use items::other_than;
+use items::state::Single;
+use items::state::starting;
+use items::turn::Turn;
+use items::word::CHAR_WORD;
+use items::word::CONTROL_WORD;
+use items::word::DELETE_WORD;
+use items::word::DESIGNATE_WORD;
+use items::word::INSTEP_WORD;
+use items::word::OTHER_WORD;
+use items::word::REFUSED_WORD;
+use items::word::SHIFT_WORD;
+use items::word::SPACE_WORD;
+use items::word::WORDS;
+use paper::EndWord;
 use paper::Figures;
 use paper::FirstRefusal;
 use paper::Form;
 use paper::Refusal;
 use paper::Surveyed;
 use refusals::LONGEST_TEXT;
+use run::begins_run;
+use run::count_run;
+use search::Opening;
+use search::opening_after;
 ghost use Prim.Native.Nat.{_≤_};
 ghost use mathlib.Core.Path.{_≡_};
 ghost use lib.ListN.{length};
 ghost use Rattle.paper.specs.Refusals.{longestText};
-ghost use Rattle.paper.specs.Results.{wordOf};
-ghost use Rattle.paper.specs.Surveying.{refusalOr, firstOf, figuresOf, surveyOf};
-ghost use Rattle.paper.specs.declared.FirstRefusal.the-variants.{Never};
-
-// The places of the answer words in the paper's list, and how many there are.
-const NOTHING_YET_WORD: usize = 0;
-
-const CHAR_WORD: usize = 1;
-
-const SPACE_WORD: usize = 2;
-
-const DELETE_WORD: usize = 3;
-
-const CONTROL_WORD: usize = 4;
-
-const DESIGNATE_WORD: usize = 5;
-
-const SHIFT_WORD: usize = 6;
-
-const OTHER_WORD: usize = 7;
-
-const REFUSED_WORD: usize = 8;
-
-const SKIPPED_WORD: usize = 9;
-
-const INSTEP_WORD: usize = 10;
-
-const WORDS: usize = 11;
+ghost use Rattle.paper.specs.Surveying.{firstOf, figuresOf, surveyOf};
+ghost use Rattle.paper.specs.declared.FirstRefusal.the-variants.{First};
+ghost use Rattle.figures.specs.Counting.{endAfter, figuresFrom};
 
 // The figures of a text in a form; 8 for one that is longer than 65,536 bytes.
 pub fn survey(form: Form, text: &[u8]) -> Surveyed
@@ -51,75 +49,31 @@ pub fn survey(form: Form, text: &[u8]) -> Surveyed
     }
 }
 
-// The place of an answer's word.
-fn word_of(answer: Answer) -> usize
-    ensures { λ r. ⌜ r ≡ wordOf answer ⌝ }
-{
-    match answer {
-        Answer::NothingYet => NOTHING_YET_WORD,
-        Answer::Char(_, _, _) => CHAR_WORD,
-        Answer::Space => SPACE_WORD,
-        Answer::Delete => DELETE_WORD,
-        Answer::Control(_, _, _) => CONTROL_WORD,
-        Answer::DesignateControls(_, _) => DESIGNATE_WORD,
-        Answer::Designate(_, _) => DESIGNATE_WORD,
-        Answer::Shift(_) => SHIFT_WORD,
-        Answer::Other(_, _) => OTHER_WORD,
-        Answer::Refused(_) => REFUSED_WORD,
-        Answer::Skipped => SKIPPED_WORD,
-        Answer::InStep(_) => INSTEP_WORD,
-    }
-}
-
-// The refusal that an answer at a place is.
-fn refusal_in(place: usize, answer: Answer) -> FirstRefusal
-    ensures { λ r. ⌜ r ≡ refusalOr Never place answer ⌝ }
-{
-    match answer {
-        Answer::NothingYet => FirstRefusal::Never,
-        Answer::Char(_, _, _) => FirstRefusal::Never,
-        Answer::Space => FirstRefusal::Never,
-        Answer::Delete => FirstRefusal::Never,
-        Answer::Control(_, _, _) => FirstRefusal::Never,
-        Answer::DesignateControls(_, _) => FirstRefusal::Never,
-        Answer::Designate(_, _) => FirstRefusal::Never,
-        Answer::Shift(_) => FirstRefusal::Never,
-        Answer::Other(_, _) => FirstRefusal::Never,
-        Answer::Refused(refusal) => FirstRefusal::First(refusal, place),
-        Answer::Skipped => FirstRefusal::Never,
-        Answer::InStep(_) => FirstRefusal::Never,
-    }
-}
-
-// The first refusal, with one answer more.
-fn first_with(first: FirstRefusal, place: usize, answer: Answer) -> FirstRefusal
-    ensures { λ r. ⌜ r ≡ firstOf first (refusalOr Never place answer) ⌝ }
+// The first refusal, with one more.
+fn first_with(first: FirstRefusal, refusal: Refusal, place: usize) -> FirstRefusal
+    ensures { λ r. ⌜ r ≡ firstOf first (First refusal place) ⌝ }
 {
     match first {
-        FirstRefusal::Never => refusal_in(place, answer),
-        FirstRefusal::First(refusal, at) => FirstRefusal::First(refusal, at),
+        FirstRefusal::Never => FirstRefusal::First(refusal, place),
+        FirstRefusal::First(earlier, at) => FirstRefusal::First(earlier, at),
     }
 }
 
-// One pass: how many answers there are of each word, and the first refusal.
-fn count(form: Form, text: &[u8]) -> Figures
-    requires { ⌜ length (now text) ≤ longestText ⌝ }
-    ensures { λ r. ⌜ r ≡ figuresOf form (now (text .entry)) ⌝ }
+// The word at the end of a text that was read to its end: after a single shift it ends inside.
+fn end_after(single: Single) -> EndWord
+    ensures { λ r. ⌜ r ≡ endAfter single ⌝ }
 {
-    let mut reader = reader::start(form);
-    let mut counts = [0usize; WORDS];
-    let mut first = FirstRefusal::Never;
-    let mut place: usize = 0;
-    while place < text.len() {
-        let given = reader::read(reader, text[place]);
-        let answer = given.answer;
-        let word = word_of(answer);
-        counts[word] += 1;
-        first = first_with(first, place, answer);
-        reader = given.reader;
-        place += 1;
+    match single {
+        Single::Not => EndWord::Whole,
+        Single::OfG2 => EndWord::Inside,
+        Single::OfG3 => EndWord::Inside,
     }
-    let end = reader::end_word(reader);
+}
+
+fn figures_of(counts: &[usize], first: FirstRefusal, end: EndWord) -> Figures
+    requires { ⌜ length (now counts) ≡ 11 ⌝ }
+    ensures { λ r. ⌜ r ≡ figuresFrom (now (counts .entry)) first end ⌝ }
+{
     Figures {
         characters: counts[CHAR_WORD],
         spaces: counts[SPACE_WORD],
@@ -133,4 +87,54 @@ fn count(form: Form, text: &[u8]) -> Figures
         first: first,
         end: end,
     }
+}
+
+// One pass: how many answers there are of each word, and the first refusal.
+fn count(form: Form, text: &[u8]) -> Figures
+    requires { ⌜ length (now text) ≤ longestText ⌝ }
+    ensures { λ r. ⌜ r ≡ figuresOf form (now (text .entry)) ⌝ }
+{
+    let to = other_than(form);
+    let mut state = starting();
+    let mut single = Single::Not;
+    let mut counts = [0usize; WORDS];
+    let mut first = FirstRefusal::Never;
+    let mut place: usize = 0;
+    while place < text.len() {
+        let byte = text[place];
+        if is_letter(to, state, single, byte) {
+            if begins_run(text, place) {
+                place = count_run(to, state, text, place, &mut counts);
+            } else {
+                counts[CHAR_WORD] += 1;
+                place += 1;
+            }
+        } else {
+            match turn_at(to, state, single, text, place) {
+                Turn::Writes(next, shifted, word, _, there) => {
+                    counts[word] += 1;
+                    state = next;
+                    single = shifted;
+                    place = there;
+                }
+                Turn::Stops(refusal, there) => {
+                    if there >= text.len() {
+                        return figures_of(&counts, first, EndWord::Inside);
+                    }
+                    counts[REFUSED_WORD] += 1;
+                    first = first_with(first, refusal, there);
+                    match opening_after(form, text, there) {
+                        Opening::Ends(after) => {
+                            counts[INSTEP_WORD] += 1;
+                            state = starting();
+                            single = Single::Not;
+                            place = after;
+                        }
+                        Opening::Missing => return figures_of(&counts, first, EndWord::Lost),
+                    }
+                }
+            }
+        }
+    }
+    figures_of(&counts, first, end_after(single))
 }

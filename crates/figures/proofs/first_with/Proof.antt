@@ -8,7 +8,6 @@ first-with-spec =
     tie.close
     (tie.spec
     (λ c. search needs)
-    (λ c κs. search needs)
     (λ c. search needs)
-    (λ c. simp (c .before .enum-told .given .1, c .refusal-in .ensures))
+    (λ c. simp (c .enum-told .given .1))
     (λ c. simp (c .before .first .given .1)))
