@@ -1,5 +1,6 @@
 // Writes pieces into a lent buffer.
 use items::piece::Piece;
+use items::piece::SECOND;
 ghost use Prim.Native.Nat.{_+_, _*_, _≤_, _<_};
 ghost use mathlib.Core.Path.{_≡_};
 ghost use lib.ListN.{length, set};
@@ -7,9 +8,7 @@ ghost use lib.Seq.{sets};
 ghost use Rattle.paper.specs.Refusals.{longestText};
 ghost use Rattle.items.specs.Pieces.{bytesIn};
 
-// The second, third, fourth and fifth place of a piece's number.
-const SECOND: u64 = 0x100;
-
+// The third, fourth and fifth place of a piece's number.
 const THIRD: u64 = 0x10000;
 
 const FOURTH: u64 = 0x1000000;
@@ -26,23 +25,23 @@ fn put(buffer: &mut [u8], at: usize, piece: Piece)
     if count < 1 {
         return;
     }
-    buffer[at] = (bytes % 0x100) as u8;
+    buffer[at] = (bytes % SECOND) as u8;
     if count < 2 {
         return;
     }
-    buffer[at + 1] = (bytes / SECOND % 0x100) as u8;
+    buffer[at + 1] = (bytes / SECOND % SECOND) as u8;
     if count < 3 {
         return;
     }
-    buffer[at + 2] = (bytes / THIRD % 0x100) as u8;
+    buffer[at + 2] = (bytes / THIRD % SECOND) as u8;
     if count < 4 {
         return;
     }
-    buffer[at + 3] = (bytes / FOURTH % 0x100) as u8;
+    buffer[at + 3] = (bytes / FOURTH % SECOND) as u8;
     if count < 5 {
         return;
     }
-    buffer[at + 4] = (bytes / FIFTH % 0x100) as u8;
+    buffer[at + 4] = (bytes / FIFTH % SECOND) as u8;
 }
 
 // Writes a piece where there is room for it.

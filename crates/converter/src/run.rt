@@ -12,6 +12,8 @@ use items::state::State;
 use items::state::kind_of;
 use items::state::size_in;
 use lane::BLOCK;
+use lane::FIRST_OF_NONE;
+use lane::LAST_OF_NONE;
 use lane::Lane;
 use lane::block_ahead;
 use lane::byte_ahead;
@@ -49,11 +51,11 @@ fn as_they_are() -> Way
     Way {
         lane: Lane {
             plain: BIT_8 - 1,
-            first: 1,
-            last: 0,
+            first: FIRST_OF_NONE,
+            last: LAST_OF_NONE,
         },
-        first: 1,
-        last: 0,
+        first: FIRST_OF_NONE,
+        last: LAST_OF_NONE,
     }
 }
 
@@ -65,8 +67,8 @@ fn into_gr(kind: Kind) -> Way
         Kind::Of94 => Way {
             lane: Lane {
                 plain: BIT_8 - 1,
-                first: 1,
-                last: 0,
+                first: FIRST_OF_NONE,
+                last: LAST_OF_NONE,
             },
             first: SPACE + 1,
             last: DELETE - 1,
@@ -74,8 +76,8 @@ fn into_gr(kind: Kind) -> Way
         Kind::Of96 => Way {
             lane: Lane {
                 plain: BIT_8 - 1,
-                first: 1,
-                last: 0,
+                first: FIRST_OF_NONE,
+                last: LAST_OF_NONE,
             },
             first: SPACE,
             last: DELETE,
@@ -168,7 +170,7 @@ fn copy_blocks(way: Way, text: &[u8], place: usize, buffer: &mut [u8], at: usize
     here
 }
 
-// The way of a letter that its element is shown for, by the byte.
+// The way of a run, by the letter that it begins with.
 fn way_of(to: Form, state: State, byte: u8) -> Way
     ensures { λ r. ⌜ r ≡ wayOf to state byte ⌝ }
 {
@@ -298,7 +300,7 @@ fn gap_ahead(to: Form, text: &[u8], place: usize) -> bool
     }
 }
 
-// After a gap.
+// Writes a gap where there is room for it: where the text and the output go on.
 fn over_gap(to: Form, text: &[u8], place: usize, buffer: &mut [u8], at: usize) -> Run
     requires { ⌜ (gapAhead to (now text) place ≡ true) × (at ≤ 7 * longestText) ⌝ }
     ensures { λ r. ⌜

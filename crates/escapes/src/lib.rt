@@ -73,8 +73,8 @@ pub const FINAL_OF_LS2R: u8 = 0x7D;
 
 pub const FINAL_OF_LS3R: u8 = 0x7C;
 
-// Columns 4 and 5, and column 6: the finals of sets of two and of three bytes. With no intermediate those of C1 functions are of
-// columns 4 and 5 too.
+// Finals by columns: before column 4; columns 4 and 5, of sets of two bytes and, with no intermediate, of C1 functions; column 6, of
+// sets of three bytes, from which on, with no intermediate, a final is of a shift or other.
 const LAST_BEFORE_FUNCTIONS: u8 = 0x3F;
 
 pub const FIRST_OF_TWO: u8 = 0x40;

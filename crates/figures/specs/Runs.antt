@@ -15,14 +15,14 @@ use Rattle.paper.specs.declared.Kind.{Kind}
 use Rattle.paper.specs.declared.Element.{Element}
 use Rattle.lane.specs.Passing.{passes}
 use Rattle.lane.specs.declared.Lane.{Lane}
-use Rattle.items.specs.States.{kindOf, sizeIn, withShown}
+use Rattle.items.specs.States.{kindOf, withShown}
 use Rattle.items.specs.Turns.{writes}
 use Rattle.items.specs.Items.{turnAt}
 use Rattle.items.specs.declared.state.Size.{Size}
 use Rattle.items.specs.declared.state.Single.{Single}
 use Rattle.items.specs.declared.state.State.{State}
 
--- the last byte of GL that is a position of a set of one byte, or SPACE
+-- the last byte of GL that is a position of a set of one byte, or SPACE; else the last of C0
 abbrev pub lastPlain : Size → ℕ
 lastPlain Size.Of94 = delete - 1
 lastPlain Size.Of96 = delete

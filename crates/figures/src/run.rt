@@ -14,6 +14,8 @@ use items::word::CONTROL_WORD;
 use items::word::SHIFT_WORD;
 use items::word::SPACE_WORD;
 use lane::BLOCK;
+use lane::FIRST_OF_NONE;
+use lane::LAST_OF_NONE;
 use lane::Lane;
 use lane::block_ahead;
 use lane::byte_ahead;
@@ -35,7 +37,8 @@ ghost use Rattle.items.specs.declared.state.Single.{Single};
 ghost use Rattle.figures.specs.Counting.{Counts};
 ghost use Rattle.figures.specs.Runs.{lastPlain, laneWith, laneOf, hasSpace, wordIn, Keeps, controlsIn, spacesIn, gapAhead, hasGaps};
 
-// The last byte of GL that is a position of a set of one byte, or SPACE; none where there are several bytes to a character.
+// The last byte of GL that is a position of a set of one byte, or SPACE; where there are several bytes to a character the
+// last control.
 fn last_plain(size: Size) -> u8
     ensures { λ r. ⌜ r ≡ lastPlain size ⌝ }
 {
@@ -66,23 +69,23 @@ fn lane_with(plain: u8, right: Size) -> Lane
         },
         Size::TwoOf94 => Lane {
             plain: plain,
-            first: 1,
-            last: 0,
+            first: FIRST_OF_NONE,
+            last: LAST_OF_NONE,
         },
         Size::TwoOf96 => Lane {
             plain: plain,
-            first: 1,
-            last: 0,
+            first: FIRST_OF_NONE,
+            last: LAST_OF_NONE,
         },
         Size::ThreeOf94 => Lane {
             plain: plain,
-            first: 1,
-            last: 0,
+            first: FIRST_OF_NONE,
+            last: LAST_OF_NONE,
         },
         Size::ThreeOf96 => Lane {
             plain: plain,
-            first: 1,
-            last: 0,
+            first: FIRST_OF_NONE,
+            last: LAST_OF_NONE,
         },
     }
 }
@@ -96,8 +99,8 @@ fn lane_of(to: Form, left: Size, right: Size) -> Lane
         Form::Seven => lane_with(plain, right),
         Form::Eight => Lane {
             plain: plain,
-            first: 1,
-            last: 0,
+            first: FIRST_OF_NONE,
+            last: LAST_OF_NONE,
         },
     }
 }
@@ -228,7 +231,7 @@ fn has_gaps(to: Form, state: State) -> bool
     }
 }
 
-// A run begins with a letter that is not the last.
+// Whether a run begins with the letter at a place: no control or space follows. Either way of counting it is right.
 pub(crate) fn begins_run(text: &[u8], place: usize) -> bool
     requires { ⌜ place < length (now text) ⌝ }
 {

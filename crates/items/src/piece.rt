@@ -6,7 +6,7 @@ ghost use mathlib.Core.List.{_∷_, []};
 ghost use Rattle.items.specs.Pieces.{bytesIn};
 
 // The second place of the number.
-const SECOND: u64 = 0x100;
+pub const SECOND: u64 = 0x100;
 
 pub struct Piece {
     pub count: usize,

@@ -74,7 +74,7 @@ pub(crate) fn count_of(size: Size) -> Count
     }
 }
 
-pub fn is_one(size: Size) -> bool
+pub(crate) fn is_one(size: Size) -> bool
     ensures { λ r. ⌜ r ≡ isOne size ⌝ }
 {
     match size {

@@ -1,6 +1,4 @@
-// The places of the answer words in the paper's list, and how many there are.
-pub const NOTHING_YET_WORD: usize = 0;
-
+// The places in the paper's list of the answer words that have a figure, and how many words there are in all.
 pub const CHAR_WORD: usize = 1;
 
 pub const SPACE_WORD: usize = 2;
@@ -16,8 +14,6 @@ pub const SHIFT_WORD: usize = 6;
 pub const OTHER_WORD: usize = 7;
 
 pub const REFUSED_WORD: usize = 8;
-
-pub const SKIPPED_WORD: usize = 9;
 
 pub const INSTEP_WORD: usize = 10;
 

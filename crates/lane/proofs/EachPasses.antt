@@ -29,7 +29,7 @@ either-true : (s t : Bool) → (s gives true or t) ≡ true → (s ≡ true) ⊎
 either-true true t e = inl refl
 either-true false t e = inr e
 
-pub each-passes : (x : Lane) (text : List ℕ) (place n k : ℕ) → passAll x text place n ≡ true → k < n →
+each-passes : (x : Lane) (text : List ℕ) (place n k : ℕ) → passAll x text place n ≡ true → k < n →
     passes x (getD text (place + k) 0) ≡ true
 each-passes x text place zero k e h = absurd (not-suc-le-zero h)
 each-passes x text place (suc n) k e h =
@@ -53,9 +53,6 @@ byte-both : (x : Lane) (text : List ℕ) (place : ℕ) → byteAhead x text plac
     (ltb place (length text) ≡ true) × (passes x (getD text place 0) ≡ true)
 unfolding byteAhead
 byte-both x text place e = both-true (ltb place (length text)) (passes x (getD text place 0)) e
-
-pub byte-inside : (x : Lane) (text : List ℕ) (place : ℕ) → byteAhead x text place ≡ true → place < length text
-byte-inside x text place e = ltb-true place (length text) (byte-both x text place e .0)
 
 pub byte-passes : (x : Lane) (text : List ℕ) (place : ℕ) → byteAhead x text place ≡ true → passes x (getD text place 0) ≡ true
 byte-passes x text place e = byte-both x text place e .1

@@ -14,6 +14,11 @@ ghost use Rattle.lane.specs.Passing.{isQuiet, passes, passAll, byteAhead
 // How many bytes are tried at once.
 pub const BLOCK: usize = 16;
 
+// Bounds within which no byte stands.
+pub const FIRST_OF_NONE: u8 = 1;
+
+pub const LAST_OF_NONE: u8 = 0;
+
 // The last plain byte, and the bounds of the bytes that pass beside the plain ones.
 pub struct Lane {
     pub plain: u8,
