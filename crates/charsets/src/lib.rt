@@ -1,9 +1,11 @@
 // Sets and elements: the sets that a text starts with, what an element has, designating into an element, and what a position
 // byte is to a set.
+use codetable::BIT_8;
 use codetable::between;
 use paper::ControlElement;
 use paper::Count;
 use paper::Element;
+use paper::GraphicArea;
 use paper::Kind;
 use paper::Set;
 use paper::SetByte;
@@ -12,6 +14,9 @@ ghost use mathlib.Core.Path.{_≡_};
 ghost use Rattle.paper.specs.Sets.{sizeOf, bytesOf, positionByte, setByte, setIn, controlsIn, designated};
 ghost use Rattle.paper.specs.Sets.{designatedControls};
 ghost use Rattle.paper.specs.Starting.{oneByte96, latin, greek, startingSets};
+ghost use Rattle.paper.specs.Characters.{byteIn, positionIn};
+ghost use Rattle.paper.specs.declared.GraphicArea.{GraphicArea};
+ghost use Rattle.charsets.specs.Sizes.{kindOf, countOf, isOne, isOf94};
 
 // The Final Bytes of the two mapped sets, 94 F 4/2 and 96 F 4/6.
 pub const LATIN_FINAL: u8 = 0x42;
@@ -91,6 +96,56 @@ pub fn bytes_of(count: Count) -> u8
     }
 }
 
+// The size of a set, kind and count, in one number: twice the bytes to a character after the first, and one more for 96 type.
+pub struct Size(pub u8);
+
+pub const OF_94: u8 = 0;
+
+pub const OF_96: u8 = 1;
+
+pub const TWO_BYTES: u8 = 2;
+
+pub const THREE_BYTES: u8 = 4;
+
+pub fn kind_of(size: Size) -> Kind
+    ensures { λ r. ⌜ r ≡ kindOf (size .0) ⌝ }
+{
+    if size.0 % 2 == OF_94 {
+        Kind::Of94
+    } else {
+        Kind::Of96
+    }
+}
+
+pub fn count_of(size: Size) -> Count
+    ensures { λ r. ⌜ r ≡ countOf (size .0) ⌝ }
+{
+    if size.0 < TWO_BYTES {
+        return Count::One;
+    }
+    if size.0 < THREE_BYTES {
+        return Count::Two;
+    }
+    Count::Three
+}
+
+// Whether there is one byte to a character.
+pub fn is_one(size: Size) -> bool
+    ensures { λ r. ⌜ r ≡ isOne (size .0) ⌝ }
+{
+    size.0 < TWO_BYTES
+}
+
+// Whether a kind is 94.
+pub fn is_of_94(kind: Kind) -> bool
+    ensures { λ r. ⌜ r ≡ isOf94 kind ⌝ }
+{
+    match kind {
+        Kind::Of94 => true,
+        Kind::Of96 => false,
+    }
+}
+
 // What a byte of columns 2 to 7 is to a set of a kind.
 fn position_byte(kind: Kind, byte: u8) -> SetByte
     ensures { λ r. ⌜ r ≡ positionByte kind byte ⌝ }
@@ -117,6 +172,44 @@ pub fn set_byte(kind: Kind, byte: u8) -> SetByte
         position_byte(kind, byte)
     } else {
         SetByte::Outside
+    }
+}
+
+// The same of a byte of GL. 2/1 to 7/14 are positions of every set and most of a text, so they are tried first.
+fn byte_in_gl(kind: Kind, byte: u8) -> SetByte
+    ensures { λ r. ⌜ r ≡ byteIn GraphicArea.GL kind byte ⌝ }
+{
+    if SPACE < byte {
+        if byte < DELETE {
+            return SetByte::OfSet;
+        }
+    }
+    set_byte(kind, byte)
+}
+
+// What a byte is to a set of a kind whose characters come from an area.
+pub fn byte_in(area: GraphicArea, kind: Kind, byte: u8) -> SetByte
+    ensures { λ r. ⌜ r ≡ byteIn area kind byte ⌝ }
+{
+    match area {
+        GraphicArea::GL => byte_in_gl(kind, byte),
+        GraphicArea::GR => {
+            if BIT_8 <= byte {
+                byte_in_gl(kind, byte % BIT_8)
+            } else {
+                SetByte::Outside
+            }
+        }
+    }
+}
+
+// The 7-bit position byte.
+pub fn position_in(area: GraphicArea, byte: u8) -> u8
+    ensures { λ r. ⌜ r ≡ positionIn area byte ⌝ }
+{
+    match area {
+        GraphicArea::GL => byte,
+        GraphicArea::GR => byte % BIT_8,
     }
 }
 

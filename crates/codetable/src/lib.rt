@@ -101,9 +101,12 @@ pub fn form_has(form: Form, byte: u8) -> bool
     form_has_column(form, column)
 }
 
-// Whether a byte stands from the first to the last, both counted.
+// Whether a byte stands from the first to the last, both counted. Both tests are made in any case, so that a compiler can do it for
+// sixteen bytes at once.
 pub fn between(first: u8, last: u8, byte: u8) -> bool
     ensures { λ r. ⌜ r ≡ between first last byte ⌝ }
 {
-    if first <= byte { byte <= last } else { false }
+    let low = first <= byte;
+    let high = byte <= last;
+    if low { high } else { false }
 }

@@ -4,6 +4,8 @@ use crate::given::say;
 use crate::given::wait;
 use charsets::DELETE;
 use charsets::SPACE;
+use charsets::byte_in;
+use charsets::position_in;
 use codetable::BIT_8;
 use paper::Answer;
 use paper::Answered;
@@ -20,7 +22,7 @@ ghost use Prim.Native.Nat.{_+_, _≤_};
 ghost use mathlib.Core.Path.{_≡_};
 ghost use Rattle.paper.specs.CodeTable.{bit8};
 ghost use Rattle.paper.specs.Sets.{space, delete, setIn};
-ghost use Rattle.paper.specs.Characters.{positionIn, byteIn, bytesSoFar, withByte, character, ofCharacter, laterByte};
+ghost use Rattle.paper.specs.Characters.{bytesSoFar, withByte, character, ofCharacter, laterByte};
 ghost use Rattle.paper.specs.Characters.{glByte, grByte, singleByte};
 
 fn bytes_so_far(bytes: PositionBytes) -> u8
@@ -63,22 +65,6 @@ fn character(
     }
 }
 
-// What a byte is to a set of a kind whose characters come from an area.
-fn byte_in(area: GraphicArea, kind: Kind, byte: u8) -> SetByte
-    ensures { λ r. ⌜ r ≡ byteIn area kind byte ⌝ }
-{
-    match area {
-        GraphicArea::GL => charsets::set_byte(kind, byte),
-        GraphicArea::GR => {
-            if BIT_8 <= byte {
-                charsets::set_byte(kind, byte % BIT_8)
-            } else {
-                SetByte::Outside
-            }
-        }
-    }
-}
-
 // A byte of a character with which its position bytes are these.
 fn of_character(
     is: SetByte,
@@ -96,16 +82,6 @@ fn of_character(
         SetByte::OfDelete => refuse(Refusal::NotOfSet, byte, reader),
         SetByte::OfSet => character(element, set, area, bytes, reader),
         SetByte::Outside => refuse(Refusal::AnotherArea, byte, reader),
-    }
-}
-
-// The 7-bit position byte.
-fn position_in(area: GraphicArea, byte: u8) -> u8
-    ensures { λ r. ⌜ r ≡ positionIn area byte ⌝ }
-{
-    match area {
-        GraphicArea::GL => byte,
-        GraphicArea::GR => byte % BIT_8,
     }
 }
 

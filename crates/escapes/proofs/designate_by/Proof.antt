@@ -1,6 +1,7 @@
--- Each arm is a row of `designation`.
+-- Each arm is the effect of a row of `designation`.
 use Rattle.paper.proofs.Tests.{tests}
 use Rattle.paper.specs.Sequences.{designation}
+use borrow.Author.Needs.{needs}
 use Rattle.escapes.proofs.designate_by.Statement.{statement}
 use Rattle.escapes.proofs.designate_by.Tie as tie
 
@@ -9,11 +10,26 @@ unfolding designation
 designate-by-spec =
     tie.close
     (tie.spec
-    (λ c. simp (c .match .keys1))
-    (λ c. simp (c .match .keys2))
-    (λ c. simp (c .match .keys3))
-    (λ c. simp (c .match .keys4))
-    (λ c. simp (c .match .keys5))
-    (λ c. simp (c .match .keys6))
-    (λ c. simp (c .match .keys7))
-    (λ c. search tests))
+    (λ c. search needs)
+    (λ c κs. search needs)
+    (λ c. search needs)
+    (λ c κs. search needs)
+    (λ c. search needs)
+    (λ c κs. search needs)
+    (λ c. search needs)
+    (λ c κs. search needs)
+    (λ c. search needs)
+    (λ c κs. search needs)
+    (λ c. search needs)
+    (λ c κs. search needs)
+    (λ c. search needs)
+    (λ c κs. search needs)
+    (λ c κs. search needs)
+    (λ c n is. simp (c .before .match .keys1, c .designates .ensures, is))
+    (λ c n is. simp (c .before .match .keys2, c .designates2 .ensures, is))
+    (λ c n is. simp (c .before .match .keys3, c .designates3 .ensures, is))
+    (λ c n is. simp (c .before .match .keys4, c .designates4 .ensures, is))
+    (λ c n is. simp (c .before .match .keys5, c .designates5 .ensures, is))
+    (λ c n is. simp (c .before .match .keys6, c .designates6 .ensures, is))
+    (λ c n is. simp (c .before .match .keys7, c .designates7 .ensures, is))
+    (λ c n is. search (tests, c .without-meaning .ensures)))

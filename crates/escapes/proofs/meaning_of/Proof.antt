@@ -1,4 +1,5 @@
--- Each arm is the clause of `meaningOf` for its number of intermediates.
+-- The meaning that has the effect of a meaning is that meaning.
+use Rattle.escapes.proofs.MeaningsKept.{meaning-kept}
 use borrow.Author.Needs.{needs}
 use Rattle.escapes.proofs.meaning_of.Statement.{statement}
 use Rattle.escapes.proofs.meaning_of.Tie as tie
@@ -7,12 +8,6 @@ pub meaning-of-spec : {M : Type 1} → statement M
 meaning-of-spec =
     tie.close
     (tie.spec
-    (λ c. search needs)
     (λ c κs. search needs)
-    (λ c. search needs)
     (λ c κs. search needs)
-    (λ c. search needs)
-    (λ c κs. search needs)
-    (λ c. simp (c .before .enum-told .given .1, c .meaning-of-none .ensures))
-    (λ c. simp (c .before .before .intermediates .given .1, c .meaning-of-one .ensures))
-    (λ c. simp (c .before .before .intermediates2 .given .1, c .meaning-of-two .ensures)))
+    (λ c. simp (c .before .effect-of .ensures, meaning-kept, c .meaning-by .ensures)))

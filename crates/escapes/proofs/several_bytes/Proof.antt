@@ -1,5 +1,7 @@
--- Each return is the row of `severalBytes` that the tests before it leave.
+-- Each return is the effect of the row of `severalBytes` that the tests before it leave.
+use mathlib.Core.Path.{refl}
 use Rattle.paper.specs.Sequences.{severalBytes}
+use Rattle.paper.specs.declared.Count.{Count}
 use borrow.Author.Needs.{needs}
 use Rattle.escapes.proofs.several_bytes.Statement.{statement}
 use Rattle.escapes.proofs.several_bytes.Tie as tie
@@ -11,7 +13,7 @@ several-bytes-spec =
     (tie.spec
     (λ c κs. search needs)
     (λ c κs. search needs)
-    (λ c. simp (← c .before .before .between .ensures, c .before .if1 .taken, c .designate-by .ensures))
+    (λ c. simp (← c .before .before .between .ensures, c .before .if1 .taken, c .designate-by .ensures Count.Two refl))
     (λ c κs. search needs)
     (λ c κs. search needs)
     (λ c. simp (
@@ -19,11 +21,13 @@ several-bytes-spec =
       c .before .before .before .if1 .left,
       ← c .before .before .between2 .ensures,
       c .before .if2 .taken,
-      c .designate-by2 .ensures,
+      c .designate-by2 .ensures Count.Three refl,
     ))
+    (λ c κs. search needs)
     (λ c. simp (
-      ← c .before .before .before .between .ensures,
-      c .before .before .if1 .left,
-      ← c .before .between2 .ensures,
-      c .if2 .left,
+      ← c .before .before .before .before .between .ensures,
+      c .before .before .before .if1 .left,
+      ← c .before .before .between2 .ensures,
+      c .before .if2 .left,
+      c .without-meaning .ensures,
     )))

@@ -10,5 +10,8 @@ short-designation-spec =
     tie.close
     (tie.spec
     (λ c κs. search needs)
-    (λ c. simp (← c .before .between .ensures, c .if1 .taken))
-    (λ c. simp (← c .before .between .ensures, c .if1 .left)))
+    (λ c. search needs)
+    (λ c κs. search needs)
+    (λ c κs. search needs)
+    (λ c. simp (← c .before .before .between .ensures, c .before .if1 .taken, c .designates .ensures))
+    (λ c. simp (← c .before .before .between .ensures, c .before .if1 .left, c .without-meaning .ensures)))

@@ -1,0 +1,2 @@
+pub mod PositionsOfEverySet
+pub mod SizesKept
