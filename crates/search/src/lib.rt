@@ -21,7 +21,7 @@ ghost use Rattle.search.specs.NextOpening.{openingAfter};
 // The bytes with which both openings begin.
 const COMMON: u8 = 18;
 
-const OPENING_START: [u8; 18] = [
+const OPENING_START: [u8; COMMON as usize] = [
     0x1B,
     0x21,
     0x40,
@@ -49,8 +49,8 @@ fn opening_length(form: Form) -> u8
     ensures { λ r. ⌜ r ≡ length (opening form) ⌝ }
 {
     match form {
-        Form::Seven => 20,
-        Form::Eight => 21,
+        Form::Seven => COMMON + 2,
+        Form::Eight => COMMON + 3,
     }
 }
 
