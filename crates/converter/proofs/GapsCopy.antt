@@ -1,4 +1,4 @@
--- A gap is two or three items, after which the state is what it was.
+-- A gap is two or three items, after which the state and what GL shows in the output are what they were.
 use Prim.Native.Nat.{ℕ, _+_, _-_, _%_, _≤_}
 use mathlib.Core.Path.{_≡_, refl, sym, ap, _∙_, subst}
 use mathlib.Core.Bool.{Bool, true}
@@ -9,81 +9,44 @@ use borrow.Author.Tests.{ltb-false, leb-true, eqb-true}
 use lib.Dec.{ltb, leb, eqb}
 use lib.ListN.{length, getD}
 use lib.Seq.{sets, length-sets}
-use Rattle.paper.specs.CodeTable.{bit8, so, si}
+use Rattle.paper.specs.CodeTable.{formHas, bit8, so, si}
 use Rattle.paper.specs.Sets.{space}
-use Rattle.paper.specs.Results.{charWord, spaceWord, shiftWord}
-use Rattle.paper.specs.WrittenForms.{beforeSpace}
+use Rattle.paper.specs.Results.{elementNumber, charWord, spaceWord}
 use Rattle.paper.specs.declared.Form.{Form}
-use Rattle.paper.specs.declared.Kind.{Kind}
 use Rattle.paper.specs.declared.Element.{Element}
-use Rattle.paper.specs.declared.PositionBytes.{PositionBytes}
 use Rattle.paper.proofs.Choices.{impossible, gives-by, between-bounds}
+use Rattle.charsets.specs.Sizes.{kindOf, isOne}
+use Rattle.escapes.specs.Effects.{showsInGL, plain}
+use Rattle.items.specs.States.{singleIn, leftIn, rightIn, sizeIn, elementOf}
+use Rattle.items.specs.Items.{shifts}
+use Rattle.items.specs.Letters.{isLetter}
+use Rattle.items.proofs.ItemsOfBytes.{eight-has, Letter, letter-is, position-item, space-item}
 use Rattle.lane.proofs.EachPasses.{both-true}
-use Rattle.items.specs.States.{kindOf, isOne, sizeIn, withGL, withShown}
-use Rattle.items.specs.Turns.{writes, afterLocking, wroteCharacter}
-use Rattle.items.specs.Items.{turnAt}
-use Rattle.items.specs.Letters.{elementOf, isLetter}
-use Rattle.items.specs.declared.state.Single.{Single}
-use Rattle.items.specs.declared.state.State.{State}
-use Rattle.items.proofs.LettersByTheirBytes.{shown-in-gr, eight-has, Letter, letter-is, is-letter}
-use Rattle.items.proofs.TurnsOfBytes.{letter-turn, space-turn, shift-in-turn, shift-out-turn}
+use Rattle.lane.proofs.LaneItems.{shown-in-gr, spaceItem}
+use Rattle.lane.proofs.GapItems.{Ahead, gap-is, GapItems, gap-items, afterIn, afterSpace, afterOut}
 use Rattle.converter.specs.Passing.{Passes}
-use Rattle.converter.specs.Runs.{gapInSeven, gapInEight, hasGaps, gapAhead, gapLength, gapBytes, inOneByte}
-use Rattle.converter.proofs.PassByTurns.{turn-goes-on}
-use Rattle.converter.proofs.RunsGoOn.{sets-more}
-use Rattle.converter.proofs.WaysCopy.{letter-in, same-is}
+use Rattle.converter.specs.Writing.{alone, shiftedTo, inSeven, spaceIn, writes}
+use Rattle.converter.specs.Runs.{gapInSeven, hasGaps, spaceAhead, gapAhead, gapLength, gapBytes, inOneByte}
+use Rattle.converter.proofs.PassByItems.{item-goes-on}
+use Rattle.converter.proofs.RunsGoOn.{sets-more, same-passes, plain-goes-on}
+use Rattle.converter.proofs.WaysCopy.{form-of-gr}
 
 -- ---- what the tests mean
 
-record InSeven (gl gr : Element) (j k : Kind) : Type 0 where
-  gl-is : gl ≡ Element.G0
-  gr-is : gr ≡ Element.G1
-  g0-is : j ≡ Kind.Of94
-  g1-is : k ≡ Kind.Of96
-
-in-seven : (gl gr : Element) (j k : Kind) → gapInSeven gl gr j k ≡ true → InSeven gl gr j k
-in-seven Element.G0 Element.G0 j k e = impossible (cc)
-in-seven Element.G0 Element.G1 Kind.Of94 Kind.Of94 e = impossible (cc)
-in-seven Element.G0 Element.G1 Kind.Of94 Kind.Of96 e = record { gl-is = refl; gr-is = refl; g0-is = refl; g1-is = refl }
-in-seven Element.G0 Element.G1 Kind.Of96 k e = impossible (cc)
-in-seven Element.G0 Element.G2 j k e = impossible (cc)
-in-seven Element.G0 Element.G3 j k e = impossible (cc)
-in-seven Element.G1 gr j k e = impossible (cc)
-in-seven Element.G2 gr j k e = impossible (cc)
-in-seven Element.G3 gr j k e = impossible (cc)
-
-in-eight : (gl : Element) (k : Kind) → gapInEight gl k ≡ true → (gl ≡ Element.G1) × (k ≡ Kind.Of94)
-in-eight Element.G0 k e = impossible (cc)
-in-eight Element.G1 Kind.Of94 e = (refl, refl)
-in-eight Element.G1 Kind.Of96 e = impossible (cc)
-in-eight Element.G2 k e = impossible (cc)
-in-eight Element.G3 k e = impossible (cc)
-
 -- the state of a gap to 7-bit form
-record Gaps (s : State) : Type 0 where
-  gl-is : s .gl ≡ Element.G0
-  gr-is : s .gr ≡ Element.G1
-  shown-is : s .shown ≡ Element.G1
-  g0-is : kindOf (s .g0) ≡ Kind.Of94
-  g1-is : kindOf (s .g1) ≡ Kind.Of96
-  one : isOne (s .g1) ≡ true
+record Gaps (cells : List ℕ) : Type 0 where
+  left-is : leftIn cells ≡ elementNumber Element.G0
+  right-is : rightIn cells ≡ elementNumber Element.G1
+  g0-is : sizeIn cells (elementNumber Element.G0) ≡ 0
+  g1-is : sizeIn cells (elementNumber Element.G1) ≡ 1
 
-seven-gaps : (s : State) (b : ℕ) → hasGaps Form.Seven s b ≡ true → Letter Form.Seven s b → inOneByte Form.Seven s b ≡ true → Gaps s
-unfolding hasGaps
-seven-gaps s b has l same =
-    gives-by (λ (t : Bool). t ≡ true → Gaps s) (ltb b bit8)
-    (λ low e. impossible (cc))
-    (λ high e.
-    let w = in-seven (s .gl) (s .gr) (kindOf (s .g0)) (kindOf (s .g1)) e in
-    let is : elementOf s b ≡ Element.G1 = shown-in-gr s b (ltb-false b bit8 high) ∙ w .gr-is in
-    record {
-      gl-is = w .gl-is;
-      gr-is = w .gr-is;
-      shown-is = sym (same-is (elementOf s b) (s .shown) same) ∙ is;
-      g0-is = w .g0-is;
-      g1-is = w .g1-is;
-      one = letter-in s b Element.G1 is (l .one);
-    }) has
+seven-gaps : (cells : List ℕ) → gapInSeven cells ≡ true → Gaps cells
+unfolding gapInSeven
+seven-gaps cells e =
+    let w = both-true (eqb (leftIn cells) (elementNumber Element.G0)) _ e in
+    let v = both-true (eqb (rightIn cells) (elementNumber Element.G1)) _ (w .1) in
+    let u = both-true (eqb (sizeIn cells (elementNumber Element.G0)) 0) _ (v .1) in
+    record { left-is = eqb-true _ _ (w .0); right-is = eqb-true _ _ (v .0); g0-is = eqb-true _ _ (u .0); g1-is = eqb-true _ _ (u .1) }
 
 pub record SpaceAhead (text : List ℕ) (place : ℕ) : Type 0 where
   pub inside : place + 2 ≤ length text
@@ -91,136 +54,86 @@ pub record SpaceAhead (text : List ℕ) (place : ℕ) : Type 0 where
   pub low : 0xA1 ≤ getD text (place + 1) 0
   pub high : getD text (place + 1) 0 ≤ 0xFE
 
-space-ahead : (text : List ℕ) (place : ℕ) → gapAhead Form.Seven text place ≡ true → SpaceAhead text place
-unfolding gapAhead
-space-ahead text place e =
+pub space-is-ahead : (text : List ℕ) (place : ℕ) → spaceAhead text place ≡ true → SpaceAhead text place
+unfolding spaceAhead
+space-is-ahead text place e =
     let w = both-true (leb (place + 2) (length text)) _ e in
     let v = both-true (eqb (getD text place 0) space) _ (w .1) in
     let u = between-bounds 0xA1 0xFE (getD text (place + 1) 0) (v .1) in
     record { inside = leb-true _ _ (w .0); is-space = eqb-true _ _ (v .0); low = u .0; high = u .1 }
 
-pub record ShiftsAhead (text : List ℕ) (place : ℕ) : Type 0 where
-  pub inside : place + 3 ≤ length text
-  pub is-si : getD text place 0 ≡ si
-  pub is-space : getD text (place + 1) 0 ≡ space
-  pub is-so : getD text (place + 2) 0 ≡ so
-
-shifts-ahead : (text : List ℕ) (place : ℕ) → gapAhead Form.Eight text place ≡ true → ShiftsAhead text place
-unfolding gapAhead
-shifts-ahead text place e =
-    let w = both-true (leb (place + 3) (length text)) _ e in
-    let v = both-true (eqb (getD text place 0) si) _ (w .1) in
-    let u = both-true (eqb (getD text (place + 1) 0) space) _ (v .1) in
-    record { inside = leb-true _ _ (w .0); is-si = eqb-true _ _ (v .0); is-space = eqb-true _ _ (u .0); is-so = eqb-true _ _ (u .1) }
-
-pub seven-ahead : (to : Form) (text : List ℕ) (place : ℕ) → to ≡ Form.Seven → gapAhead to text place ≡ true → SpaceAhead text place
-seven-ahead to text place is e = space-ahead text place (ap (λ (m : Form). gapAhead m text place) (sym is) ∙ e)
-
-pub eight-ahead : (to : Form) (text : List ℕ) (place : ℕ) → to ≡ Form.Eight → gapAhead to text place ≡ true → ShiftsAhead text place
-eight-ahead to text place is e = shifts-ahead text place (ap (λ (m : Form). gapAhead m text place) (sym is) ∙ e)
-
 -- ---- the items
 
-module _ {text lent : List ℕ} {s : State} {at place : ℕ} {buffer : List ℕ} where
-  module _ (p : Passes Form.Seven text lent s Single.Not at place buffer) (g : Gaps s) (ahead : SpaceAhead text place) where
-    abbrev next : ℕ
-    next = getD text (place + 1) 0
+module _ {m : Form} {text lent cells : List ℕ} {shown at place : ℕ} {buffer : List ℕ} where
+  -- SPACE after SI, and the letter after SO
+  seven-goes-on : Passes m Form.Seven text lent cells shown at place buffer → m ≡ Form.Eight → singleIn cells ≡ 0 →
+      shown ≡ elementNumber Element.G1 → Gaps cells → SpaceAhead text place → (after : List ℕ) → length after ≡ length buffer →
+      (at + 4 ≤ length lent → after ≡ sets buffer at (gapBytes Form.Seven text place)) →
+      Passes m Form.Seven text lent cells shown (at + 4) (place + 2) after
+  unfolding writes inSeven shiftedTo kindOf isOne
+  seven-goes-on p form ground is g a after long stored =
+      let next : ℕ = getD text (place + 1) 0 in
+      let first : List ℕ = si ∷ space ∷ [] in
+      let second : List ℕ = so ∷ (next - bit8) ∷ [] in
+      let there : place + 1 + 1 ≡ place + 2 = omega arith in
+      let written : at + 2 + 2 ≡ at + 4 = omega arith in
+      let lowered : next % bit8 ≡ next - bit8 = omega (arith, a .low, a .high) in
+      let in-gr : elementOf cells next ≡ elementNumber Element.G1 = shown-in-gr cells next (omega (arith, a .low)) ∙ g .right-is in
+      let half : Passes m Form.Seven text lent cells (elementNumber Element.G0) (at + 2) (place + 1) (sets buffer at first) =
+      plain-goes-on p (omega (arith, a .inside)) ground spaceWord 0 (space ∷ []) (λ e. omega arith)
+      (space-item m cells text place (omega (arith, a .inside)) ground (a .is-space) (rw (g .left-is, g .g0-is)))
+      first (elementNumber Element.G0) (rw (is, g .g1-is)) (sets buffer at first) (length-sets buffer at first) (λ h. refl) in
+      subst (λ (n : ℕ). Passes m Form.Seven text lent cells shown (at + 4) n after) there
+      (subst (λ (n : ℕ). Passes m Form.Seven text lent cells shown n (place + 1 + 1) after) written
+      (subst (λ (n : ℕ). Passes m Form.Seven text lent cells n (at + 2 + 2) (place + 1 + 1) after) (sym is)
+      (plain-goes-on half (omega (arith, a .inside)) ground charWord (elementOf cells next) (next % bit8 ∷ []) (λ e. omega arith)
+      (position-item m cells text (place + 1) (omega (arith, a .inside)) ground (ap (λ (f : Form). formHas f next) form ∙ eight-has next)
+      (omega (arith, a .low, a .high)) (omega (arith, a .low, a .high)) (rw (in-gr, g .g1-is)))
+      second (elementNumber Element.G1) (rw (in-gr, lowered)) after (long ∙ sym (length-sets buffer at first))
+      (λ h. stored (omega arith) ∙ sets-more buffer at first second))))
 
-    abbrev shifted-in : State
-    shifted-in = withShown Element.G0 s
+  -- SI, SPACE and SO, of which SPACE is written
+  eight-goes-on : Passes m Form.Eight text lent cells shown at place buffer → GapItems m cells text place → (after : List ℕ) →
+      length after ≡ length buffer → (at + 1 ≤ length lent → after ≡ sets buffer at (gapBytes Form.Eight text place)) →
+      Passes m Form.Eight text lent cells shown (at + 1) (place + 3) after
+  unfolding writes
+  eight-goes-on p g after long stored =
+      let one-more : place + 1 + 1 ≡ place + 2 = omega arith in
+      let there : place + 2 + 1 ≡ place + 3 = omega arith in
+      let shifted : Passes m Form.Eight text lent (afterIn cells) shown at (place + 1) buffer =
+      subst (λ (n : ℕ). Passes m Form.Eight text lent (afterIn cells) shown n (place + 1) buffer) (add-zero at)
+      (item-goes-on p (omega (arith, g .inside)) (shifts (elementNumber Element.G0) (place + 1)) (g .shift-in) (λ e. omega arith)
+      buffer refl (λ h. refl)) in
+      let spaced : Passes m Form.Eight text lent (afterSpace cells) shown (at + 1) (place + 2) after =
+      subst (λ (n : ℕ). Passes m Form.Eight text lent (afterSpace cells) shown (at + 1) n after) one-more
+      (item-goes-on shifted (omega (arith, g .inside)) (spaceItem (place + 1 + 1)) (g .space-sign) (λ e. omega arith) after long stored) in
+      subst (λ (n : ℕ). Passes m Form.Eight text lent cells shown (at + 1) n after) there
+      (subst (λ (n : ℕ). Passes m Form.Eight text lent cells shown n (place + 2 + 1) after) (add-zero (at + 1))
+      (same-passes (g .same)
+      (item-goes-on spaced (omega (arith, g .inside)) (shifts (elementNumber Element.G1) (place + 2 + 1)) (g .shift-out) (λ e. omega arith)
+      after refl (λ h. refl))))
 
-    inside : place + 2 ≤ length text
-    inside = ahead .inside
-
-    bounds : (0xA1 ≤ next) × (next ≤ 0xFE)
-    bounds = (ahead .low, ahead .high)
-
-    -- SPACE after SI
-    space-of-gap : turnAt Form.Seven s Single.Not text place ≡ writes shifted-in Single.Not spaceWord (si ∷ space ∷ []) (place + 1)
-    space-of-gap =
-        space-turn Form.Seven s text place (omega (arith, inside)) (ahead .is-space)
-        (ap (λ (e : Element). kindOf (sizeIn s e)) (g .gl-is) ∙ g .g0-is) ∙
-        ap (λ (k : Kind). afterLocking (beforeSpace k) s spaceWord (space ∷ []) (place + 1))
-        (ap (λ (e : Element). kindOf (sizeIn s e)) (g .shown-is) ∙ g .g1-is)
-
-    -- the letter after SO
-    letter-of-gap : turnAt Form.Seven shifted-in Single.Not text (place + 1) ≡
-        writes s Single.Not charWord (so ∷ (next - bit8) ∷ []) (place + 1 + 1)
-    letter-of-gap =
-        let in-gr : elementOf shifted-in next ≡ Element.G1 = shown-in-gr shifted-in next (omega (arith, bounds)) ∙ g .gr-is in
-        let lowered : next % bit8 ≡ next - bit8 = omega (arith, bounds) in
-        letter-turn Form.Seven shifted-in text (place + 1) (omega (arith, inside)) Single.Not
-        (is-letter Form.Seven shifted-in next (record {
-          low = omega (arith, bounds);
-          high = omega (arith, bounds);
-          has = eight-has next;
-          one = ap (λ (e : Element). isOne (sizeIn shifted-in e)) in-gr ∙ g .one;
-        })) ∙
-        ap (λ (e : Element). wroteCharacter Form.Seven shifted-in e (PositionBytes.One (next % bit8)) (place + 1 + 1)) in-gr ∙
-        ap (λ (n : ℕ). writes (withShown Element.G1 s) Single.Not charWord (so ∷ n ∷ []) (place + 1 + 1)) lowered ∙
-        ap (λ (e : Element). writes (withShown e s) Single.Not charWord (so ∷ (next - bit8) ∷ []) (place + 1 + 1)) (sym (g .shown-is))
-
-    seven-goes-on : (after : List ℕ) → length after ≡ length buffer →
-        (at + 4 ≤ length lent → after ≡ sets buffer at (gapBytes Form.Seven text place)) →
-        Passes Form.Seven text lent s Single.Not (at + 4) (place + 2) after
-    seven-goes-on after long stored =
-        let first = si ∷ space ∷ [] in
-        let there : place + 1 + 1 ≡ place + 2 = omega arith in
-        let written : at + 2 + 2 ≡ at + 4 = omega arith in
-        let half : Passes Form.Seven text lent shifted-in Single.Not (at + 2) (place + 1) (sets buffer at first) =
-        turn-goes-on p (omega (arith, inside)) shifted-in Single.Not spaceWord first (place + 1) space-of-gap (sets buffer at first)
-        (length-sets buffer at first) (λ h. refl) in
-        subst (λ (n : ℕ). Passes Form.Seven text lent s Single.Not (at + 4) n after) there
-        (subst (λ (n : ℕ). Passes Form.Seven text lent s Single.Not n (place + 1 + 1) after) written
-        (turn-goes-on half (omega (arith, inside)) s Single.Not charWord (so ∷ (next - bit8) ∷ []) (place + 1 + 1) letter-of-gap after
-        (long ∙ sym (length-sets buffer at first))
-        (λ h. stored (omega arith) ∙ sets-more buffer at first (so ∷ (next - bit8) ∷ []))))
-
-  module _ (p : Passes Form.Eight text lent s Single.Not at place buffer) (is-g1 : s .gl ≡ Element.G1) (of-94 : kindOf (s .g0) ≡ Kind.Of94)
-      (ahead : ShiftsAhead text place) where
-    abbrev of-g0 : State
-    of-g0 = withGL Element.G0 s
-
-    three-inside : place + 3 ≤ length text
-    three-inside = ahead .inside
-
-    out-again : turnAt Form.Eight of-g0 Single.Not text (place + 2) ≡ writes s Single.Not shiftWord [] (place + 2 + 1)
-    out-again =
-        shift-out-turn Form.Eight of-g0 text (place + 2) (omega (arith, three-inside)) (ahead .is-so) ∙
-        ap (λ (e : Element). writes (withGL e s) Single.Not shiftWord [] (place + 2 + 1)) (sym is-g1)
-
-    eight-goes-on : (after : List ℕ) → length after ≡ length buffer →
-        (at + 1 ≤ length lent → after ≡ sets buffer at (gapBytes Form.Eight text place)) →
-        Passes Form.Eight text lent s Single.Not (at + 1) (place + 3) after
-    eight-goes-on after long stored =
-        let one-more : place + 1 + 1 ≡ place + 2 = omega arith in
-        let there : place + 2 + 1 ≡ place + 3 = omega arith in
-        let shown : Passes Form.Eight text lent of-g0 Single.Not at (place + 1) buffer =
-        subst (λ (n : ℕ). Passes Form.Eight text lent of-g0 Single.Not n (place + 1) buffer) (add-zero at)
-        (turn-goes-on p (omega (arith, three-inside)) of-g0 Single.Not shiftWord [] (place + 1)
-        (shift-in-turn Form.Eight s text place (omega (arith, three-inside)) (ahead .is-si)) buffer refl (λ h. refl)) in
-        let spaced : Passes Form.Eight text lent of-g0 Single.Not (at + 1) (place + 2) after =
-        subst (λ (n : ℕ). Passes Form.Eight text lent of-g0 Single.Not (at + 1) n after) one-more
-        (turn-goes-on shown (omega (arith, three-inside)) of-g0 Single.Not spaceWord (space ∷ []) (place + 1 + 1)
-        (space-turn Form.Eight of-g0 text (place + 1) (omega (arith, three-inside)) (ahead .is-space) of-94) after long stored) in
-        subst (λ (n : ℕ). Passes Form.Eight text lent s Single.Not (at + 1) n after) there
-        (subst (λ (n : ℕ). Passes Form.Eight text lent s Single.Not n (place + 2 + 1) after) (add-zero (at + 1))
-        (turn-goes-on spaced (omega (arith, three-inside)) s Single.Not shiftWord [] (place + 2 + 1) out-again after refl (λ h. refl)))
-
-pub gap-goes-on : (to : Form) {text lent : List ℕ} {s : State} {at place : ℕ} {buffer : List ℕ} (b : ℕ) →
-    Passes to text lent s Single.Not at place buffer →
-    hasGaps to s b ≡ true → isLetter to s Single.Not b ≡ true → inOneByte to s b ≡ true → gapAhead to text place ≡ true →
-    (after : List ℕ) → length after ≡ length buffer →
+pub gap-goes-on : (m to : Form) {text lent cells : List ℕ} {shown at place : ℕ} {buffer : List ℕ} (b : ℕ) →
+    Passes m to text lent cells shown at place buffer → hasGaps to cells b ≡ true → isLetter m cells b ≡ true →
+    inOneByte to shown (elementOf cells b) b ≡ true → gapAhead to text place ≡ true → (after : List ℕ) → length after ≡ length buffer →
     (at + length (gapBytes to text place) ≤ length lent → after ≡ sets buffer at (gapBytes to text place)) →
-    Passes to text lent s Single.Not (at + length (gapBytes to text place)) (place + gapLength to) after
-unfolding hasGaps
-gap-goes-on Form.Seven {text} {lent} {s} {at} {place} b p has letter short ahead =
-    seven-goes-on p (seven-gaps s b has (letter-is Form.Seven s b letter) short) (space-ahead text place ahead)
-gap-goes-on Form.Eight {text} {lent} {s} {at} {place} b p has letter short ahead =
-    let w = in-eight (s .gl) (kindOf (s .g0)) has in
-    eight-goes-on p (w .0) (w .1) (shifts-ahead text place ahead)
+    Passes m to text lent cells shown (at + length (gapBytes to text place)) (place + gapLength to) after
+unfolding hasGaps inOneByte
+gap-goes-on m Form.Seven {text} {lent} {cells} {shown} {at} {place} {buffer} b p has letter short ahead =
+    let l = letter-is m cells b letter in
+    gives-by (λ (t : Bool). t ≡ true → (after : List ℕ) → length after ≡ length buffer →
+    (at + 4 ≤ length lent → after ≡ sets buffer at (gapBytes Form.Seven text place)) →
+    Passes m Form.Seven text lent cells shown (at + 4) (place + 2) after) (ltb b bit8)
+    (λ low e. impossible (cc))
+    (λ t e.
+    let high = ltb-false b bit8 t in
+    let g = seven-gaps cells e in
+    seven-goes-on p (form-of-gr m b (l .has) high) (l .ground)
+    (sym (eqb-true _ _ short) ∙ shown-in-gr cells b high ∙ g .right-is) g (space-is-ahead text place ahead)) has
+gap-goes-on m Form.Eight {text} {lent} {cells} {shown} {at} {place} b p has letter short ahead =
+    eight-goes-on p (gap-items m cells text place (p .reader) (p .stands) (letter-is m cells b letter .ground) has ahead)
 
 -- a gap stands inside the text
 pub gap-inside : (to : Form) (text : List ℕ) (place : ℕ) → gapAhead to text place ≡ true → place + gapLength to ≤ length text
-gap-inside Form.Seven text place e = space-ahead text place e .inside
-gap-inside Form.Eight text place e = shifts-ahead text place e .inside
+gap-inside Form.Seven text place e = space-is-ahead text place e .inside
+gap-inside Form.Eight text place e = gap-is text place e .inside

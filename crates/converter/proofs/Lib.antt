@@ -2,9 +2,10 @@ pub mod ConvertedByTwoPasses
 pub mod GapsCopy
 pub mod MostFiveBytes
 pub mod OverTheBuffer
+pub mod PassByItems
 pub mod PassByPieces
-pub mod PassByTurns
 pub mod PassEnds
 pub mod PassGoesOn
 pub mod RunsGoOn
 pub mod WaysCopy
+pub mod WritesAnswers

@@ -12,7 +12,7 @@ use Rattle.paper.specs.Texts.{readerAfter, answersFrom}
 use Rattle.paper.specs.LentBuffers.{over}
 use Rattle.paper.specs.Surveying.{refusalOr, firstRefusal, firstOf}
 use Rattle.paper.specs.WrittenForms.{sequenceIn, writtenFor, writerAfter, writtenFrom}
-use Rattle.paper.specs.Conversions.{refusalAtEnd, refusalIn}
+use Rattle.paper.specs.Conversions.{refusalAtEnd, refusalIn, output}
 use Rattle.paper.specs.declared.Form.{Form}
 use Rattle.paper.specs.declared.Element.{Element}
 use Rattle.paper.specs.declared.Standing.{Standing}
@@ -23,14 +23,12 @@ use Rattle.paper.specs.declared.FirstRefusal.{FirstRefusal}
 use Rattle.paper.specs.declared.FirstRefusal.the-variants.{First}
 use Rattle.paper.proofs.LawfulAnswers.{IsInStep, Leaves, in-step-lawful, form-on}
 use Rattle.paper.proofs.WrittenTurnByTurn.{one-turn, sets-by-the-answer}
-use Rattle.items.specs.OtherForm.{otherThan}
-use Rattle.items.specs.States.{beside}
 use Rattle.items.proofs.ItemsByBytes.{NoRefusal}
-use Rattle.converter.specs.Passing.{restFrom, refusalFrom, outputTo, Passing}
+use Rattle.converter.specs.Passing.{beside, restFrom, refusalFrom, Passing}
 use Rattle.converter.proofs.OverTheBuffer.{over-more}
 
-pub passing-starts : (to : Form) (text lent : List ℕ) → Passing to text lent (started (otherThan to)) Element.G0 0 0 lent
-passing-starts to text lent = record {
+pub passing-starts : (m to : Form) (text lent : List ℕ) → Passing m to text lent (started m) Element.G0 0 0 lent
+passing-starts m to text lent = record {
   within = omega arith;
   in-step = tt;
   form = refl;
@@ -126,14 +124,14 @@ module _ (text : List ℕ) (r : Reader) (place : ℕ) (inside : place < length t
       writtenFrom to (record { sets = t; gl = writerAfter to w said .gl }) (sequenceIn (answersFrom (place + 1) next more)))
       (sym (sets-by-the-answer r here h))
 
-module _ {to : Form} {text lent : List ℕ} {r : Reader} {gl : Element} {at place : ℕ} {buffer : List ℕ}
-    (p : Passing to text lent r gl at place buffer) where
+module _ {m to : Form} {text lent : List ℕ} {r : Reader} {gl : Element} {at place : ℕ} {buffer : List ℕ}
+    (p : Passing m to text lent r gl at place buffer) where
   -- an answer that is no refusal, with its bytes in the buffer
   pub passing-goes-on : (inside : place < length text) (bytes after : List ℕ) (shown : Element) →
       let said = answerTo r (getD text place 0) .answer in
       NoRefusal said → bytes ≡ writtenFor to (beside r gl) said → shown ≡ writerAfter to (beside r gl) said .gl →
       length after ≡ length buffer → (at + length bytes ≤ length lent → after ≡ sets buffer at bytes) →
-      Passing to text lent (answerTo r (getD text place 0) .reader) shown (at + length bytes) (place + 1) after
+      Passing m to text lent (answerTo r (getD text place 0) .reader) shown (at + length bytes) (place + 1) after
   passing-goes-on inside bytes after shown no-refusal is shows as-long-as stored =
       let b = getD text place 0 in
       let next : Reader = answerTo r b .reader in
@@ -142,9 +140,9 @@ module _ {to : Form} {text lent : List ℕ} {r : Reader} {gl : Element} {at plac
       written-here text r place inside to gl (p .in-step) ∙
       ap (λ (e : Element). writtenFor to (beside r gl) (answerTo r b .answer) ++ restFrom to next e (place + 1) text) (sym shows) ∙
       ap (λ (l : List ℕ). l ++ more) (sym is) in
-      let whole : (p .so-far ++ bytes) ++ more ≡ outputTo to text =
+      let whole : (p .so-far ++ bytes) ++ more ≡ output m to text =
       append-assoc (p .so-far) bytes more ∙ ap (λ (l : List ℕ). p .so-far ++ l) (sym split) ∙ p .whole in
-      let long : at + length bytes ≤ length (outputTo to text) =
+      let long : at + length bytes ≤ length (output m to text) =
       omega (arith, p .counted, ap length whole, length-append (p .so-far ++ bytes) more, length-append (p .so-far) bytes) in
       record {
         within = omega arith;
@@ -163,7 +161,7 @@ module _ {to : Form} {text lent : List ℕ} {r : Reader} {gl : Element} {at plac
       }
 
   pub passing-refused : (inside : place < length text) (n : Refusal) →
-      answerTo r (getD text place 0) .answer ≡ Answer.Refused n → refusalIn (otherThan to) text ≡ First n place
+      answerTo r (getD text place 0) .answer ≡ Answer.Refused n → refusalIn m text ≡ First n place
   passing-refused inside n e =
       let b = getD text place 0 in
       let next : Reader = answerTo r b .reader in
@@ -173,12 +171,12 @@ module _ {to : Form} {text lent : List ℕ} {r : Reader} {gl : Element} {at plac
 
   -- at the end of the text
   pub passing-ends : length text ≤ place →
-      (refusalIn (otherThan to) text ≡ refusalAtEnd (endOfText r) (length text)) ×
-      (length (outputTo to text) ≡ at) ×
-      (length (outputTo to text) ≤ length lent → buffer ≡ over (outputTo to text) lent)
+      (refusalIn m text ≡ refusalAtEnd (endOfText r) (length text)) ×
+      (length (output m to text) ≡ at) ×
+      (length (output m to text) ≤ length lent → buffer ≡ over (output m to text) lent)
   passing-ends past =
       let over-it : drop place text ≡ [] = drop-of-length-le text past in
-      let all : p .so-far ≡ outputTo to text =
+      let all : p .so-far ≡ output m to text =
       sym (append-nil (p .so-far)) ∙
       ap (λ (l : List ℕ). p .so-far ++ writtenFrom to (beside r gl) (sequenceIn (answersFrom place r l))) (sym over-it) ∙
       p .whole in (

@@ -1,58 +1,52 @@
--- A byte that passes a letter's lane is a control, SPACE, DELETE or a character of the letter's element, for which one byte is written
--- and no shift.
+-- A byte that passes a letter's way passes the lane of the state, so it is one item that changes nothing; and one byte is written for it,
+-- with no shift.
 use Prim.Native.Nat.{ℕ, _+_, _-_, _%_, _≤_, _<_}
 use mathlib.Core.Path.{_≡_, refl, sym, ap, _∙_, subst}
 use mathlib.Core.Bool.{Bool, true, false}
 use mathlib.Core.List.{List, [], _∷_}
-use mathlib.Core.Logic.{⊎-elim}
+use mathlib.Core.Logic.{_⊎_, inl, inr, ⊎-elim}
 use native.Mathlib.Omega.{arith}
-use borrow.Author.Tests.{ltb-true, ltb-false, lt-ltb, le-ltb, lt-leb}
-use lib.Dec.{ltb, leb}
+use borrow.Author.Tests.{ltb-true, ltb-false, eqb-true, eqb-false, lt-ltb, le-ltb, lt-leb}
+use lib.Dec.{ltb, leb, eqb}
 use lib.ListN.{length, getD}
-use Rattle.paper.specs.Choice.{between}
-use Rattle.paper.specs.CodeTable.{areaOf, bit8, so, si, esc}
-use Rattle.paper.specs.Sets.{space, delete, setByte}
-use Rattle.paper.specs.Characters.{byteIn}
-use Rattle.paper.specs.Results.{charWord, spaceWord, deleteWord, controlWord}
-use Rattle.paper.specs.WrittenForms.{beforeCharacter, beforeSpace, characterBytes}
-use Rattle.paper.specs.declared.Area.{Area}
+use Rattle.paper.specs.Choice.{_gives_or_, between}
+use Rattle.paper.specs.CodeTable.{formHas, bit8}
+use Rattle.paper.specs.Sets.{space, delete}
+use Rattle.paper.specs.Results.{elementNumber, charWord, spaceWord, controlWord}
 use Rattle.paper.specs.declared.Form.{Form}
 use Rattle.paper.specs.declared.Kind.{Kind}
+use Rattle.paper.specs.declared.Kind.the-variants.{Of94, Of96}
 use Rattle.paper.specs.declared.Element.{Element}
-use Rattle.paper.specs.declared.PositionBytes.{PositionBytes}
+use Rattle.paper.specs.declared.Reader.{Reader}
 use Rattle.paper.proofs.Choices.{impossible, gives-by, in-bounds}
+use Rattle.charsets.specs.Sizes.{kindOf, isOne}
+use Rattle.escapes.specs.Effects.{plain}
+use Rattle.items.specs.States.{singleIn, leftIn, rightIn, sizeIn, elementOf, Stands}
+use Rattle.items.specs.Letters.{isLetter}
+use Rattle.items.proofs.ItemsOfBytes.{Letter, letter-is}
 use Rattle.lane.specs.Passing.{passes}
+use Rattle.lane.specs.Lanes.{firstPosition, lastPosition, plainTo, positionsOf, lastPlain, laneOf}
 use Rattle.lane.specs.declared.Lane.{Lane}
-use Rattle.lane.proofs.EachPasses.{passes-means, bound-passes, plain-passes}
-use Rattle.items.specs.OtherForm.{otherThan}
-use Rattle.items.specs.States.{kindOf, isOne, sizeIn}
-use Rattle.items.specs.Turns.{Did, writes, afterLocking, wroteCharacter, wroteSpace}
-use Rattle.items.specs.Items.{turnAt, turnOf, graphicArea}
-use Rattle.items.specs.Letters.{elementOf, isLetter}
-use Rattle.items.specs.declared.state.Single.{Single}
-use Rattle.items.specs.declared.state.State.{State}
-use Rattle.items.proofs.AreasOfBytes.{below-bit-8}
-use Rattle.items.proofs.LettersByTheirBytes.{less-or-not, shown-in-gl, shown-in-gr, gl-has, eight-has, seven-below}
-use Rattle.items.proofs.LettersByTheirBytes.{Letter, letter-is, is-letter}
-use Rattle.items.proofs.TurnsOfBytes.{letter-turn, high-turn, control-turn, space-turn}
-use Rattle.converter.specs.Runs.{asTheyAre, intoGR, intoGL, wayInEight, wayOf, copiedBy, Copied, Copies}
-use Rattle.converter.specs.Runs.{sameOfTwo, isOfTwo, inOneByte}
+use Rattle.lane.proofs.EachPasses.{both-true, passes-means, passes-too, bound-passes, plain-passes}
+use Rattle.lane.proofs.LaneItems.{less-or-not, plain-with, shown-in-gl, shown-in-gr, IsCharacter, LaneItem, control, space-sign, character, lane-item}
+use Rattle.lane.proofs.LettersPass.{plain-by-kind, lane-by-kind, bounds-by-kind, seven-below}
+use Rattle.converter.specs.Passing.{OfTwo}
+use Rattle.converter.specs.Writing.{alone, shiftedTo, inSeven, inEight, underKind, characterIn, spaceIn, writes}
+use Rattle.converter.specs.Runs.{lowAsItIs, lowRaised, highLowered, wayOf, copiedBy, Copied, Copies, inOneByte}
 use Rattle.converter.specs.declared.run.Way.{Way}
+use Rattle.converter.proofs.WritesAnswers.{control-of-c0}
 
 -- ---- what is copied
 
-below : (first last b : ℕ) → b < first → between first last b ≡ false
+outside : (first last b : ℕ) → (b < first) ⊎ (last < b) → between first last b ≡ false
 unfolding between
-below first last b h = rw (lt-leb first b h)
-
-above : (first last b : ℕ) → last < b → between first last b ≡ false
-unfolding between
-above first last b h = gives-by (λ (t : Bool). t ≡ false) (leb first b) (λ e. lt-leb b last h) (λ e. refl)
+outside first last b (inl low) = rw (lt-leb first b low)
+outside first last b (inr high) = gives-by (λ (t : Bool). t ≡ false) (leb first b) (λ e. lt-leb b last high) (λ e. refl)
 
 module _ (way : Way) (b : ℕ) where
-  as-it-is : between (way .first) (way .last) b ≡ false → copiedBy way b ≡ b
+  as-it-is : (b < way .first) ⊎ (way .last < b) → copiedBy way b ≡ b
   unfolding copiedBy
-  as-it-is e = rw e
+  as-it-is out = rw (outside (way .first) (way .last) b out)
 
   with-bit-8 : way .first ≤ b → b ≤ way .last → b < bit8 → copiedBy way b ≡ b + bit8
   unfolding copiedBy
@@ -62,302 +56,274 @@ module _ (way : Way) (b : ℕ) where
   unfolding copiedBy
   without-bit-8 low high h = rw (in-bounds (way .first) (way .last) b low high, le-ltb b bit8 h)
 
+nowhere-low : (b : ℕ) → (b < 1) ⊎ (0 < b)
+nowhere-low b = ⊎-elim (λ low. inl low) (λ high. inr (omega arith)) (less-or-not b 1)
+
 -- ---- one byte written, and no shift
 
-pub same-is : (e x : Element) → sameOfTwo e x ≡ true → e ≡ x
-same-is Element.G0 Element.G0 q = refl
-same-is Element.G0 Element.G1 q = impossible (cc)
-same-is Element.G0 Element.G2 q = impossible (cc)
-same-is Element.G0 Element.G3 q = impossible (cc)
-same-is Element.G1 Element.G0 q = impossible (cc)
-same-is Element.G1 Element.G1 q = refl
-same-is Element.G1 Element.G2 q = impossible (cc)
-same-is Element.G1 Element.G3 q = impossible (cc)
-same-is Element.G2 x q = impossible (cc)
-same-is Element.G3 x q = impossible (cc)
+-- to 7-bit form, of the element that GL shows
+shown-in-seven : (gl : Element) → OfTwo gl → (bytes : List ℕ) →
+    inSeven (elementNumber gl) (elementNumber gl) bytes ≡ alone bytes (elementNumber gl)
+unfolding inSeven shiftedTo
+shown-in-seven Element.G0 two bytes = refl
+shown-in-seven Element.G1 two bytes = refl
+shown-in-seven Element.G2 two bytes = absurd two
+shown-in-seven Element.G3 two bytes = absurd two
 
-module _ (s : State) (p place : ℕ) where
-  shifted : (e x : Element) → sameOfTwo e x ≡ true →
-      afterLocking (beforeCharacter e x) s charWord (characterBytes Form.Seven e (PositionBytes.One p)) place ≡
-      writes s Single.Not charWord (p ∷ []) place
-  shifted Element.G0 Element.G0 q = refl
-  shifted Element.G0 Element.G1 q = impossible (cc)
-  shifted Element.G0 Element.G2 q = impossible (cc)
-  shifted Element.G0 Element.G3 q = impossible (cc)
-  shifted Element.G1 Element.G0 q = impossible (cc)
-  shifted Element.G1 Element.G1 q = refl
-  shifted Element.G1 Element.G2 q = impossible (cc)
-  shifted Element.G1 Element.G3 q = impossible (cc)
-  shifted Element.G2 x q = impossible (cc)
-  shifted Element.G3 x q = impossible (cc)
+-- to 8-bit form, of G0 as it is, of G1 with bit 8
+g0-by-number : (gl : Element) → elementNumber gl < elementNumber Element.G2 → (elementNumber gl ≡ elementNumber Element.G1 → ⊥) → gl ≡ Element.G0
+g0-by-number Element.G0 low other = refl
+g0-by-number Element.G1 low other = absurd (other refl)
+g0-by-number Element.G2 low other = absurd (omega arith)
+g0-by-number Element.G3 low other = absurd (omega arith)
 
--- ---- the byte at a place
+lowest-first : (k : Kind) → space ≤ firstPosition k
+lowest-first Of94 = omega arith
+lowest-first Of96 = omega arith
 
-module _ (to : Form) (s : State) (text : List ℕ) (place : ℕ) (inside : place < length text) where
-  abbrev b : ℕ
-  b = getD text place 0
+lowest-plain : (x : ℕ) → space - 1 ≤ lastPlain x
+unfolding lastPlain
+lowest-plain x =
+    let P : ℕ → Type 0 = λ (n : ℕ). space - 1 ≤ n in
+    gives-by P (eqb x 0) (λ _. omega arith) (λ _. gives-by P (eqb x 1) (λ _. omega arith) (λ _. omega arith))
 
-  abbrev turn : Did
-  turn = turnAt to s Single.Not text place
-
-  delete-turn : b ≡ delete → kindOf (sizeIn s (s .gl)) ≡ Kind.Of94 → turn ≡ wroteSpace to s delete deleteWord (place + 1)
-  unfolding turnAt turnOf graphicArea byteIn setByte between
-  delete-turn e of-94 =
-      let area : areaOf b ≡ Area.GL = below-bit-8 b (omega arith) (omega arith) in
-      rw (lt-leb (length text) place inside, gl-has (otherThan to) b (omega arith) (omega arith), area, e, of-94)
-
-  copied-so : (way : Way) (word copy : ℕ) → turn ≡ writes s Single.Not word (copy ∷ []) (place + 1) → copiedBy way b ≡ copy →
-      Copied to s text way place
-  copied-so way word copy e c = record {
-    word = word;
-    turns = e ∙ ap (λ (n : ℕ). writes s Single.Not word (n ∷ []) (place + 1)) (sym c);
-  }
-
-  quiet-copied : (way : Way) → b < space → (b ≡ esc → ⊥) × (b ≡ so → ⊥) × (b ≡ si → ⊥) →
-      between (way .first) (way .last) b ≡ false → Copied to s text way place
-  quiet-copied way low quiet e =
-      copied-so way controlWord b (control-turn to s text place inside low (quiet .1) (quiet .2) (quiet .0)) (as-it-is way b e)
-
-  -- in GL, where the set has one byte to a character
-  module _ (low : space ≤ b) (high : b < bit8) (one : isOne (sizeIn s (s .gl)) ≡ true) where
-    abbrev character : Did
-    character = wroteCharacter to s (s .gl) (PositionBytes.One b) (place + 1)
-
-    in-gl : wroteCharacter to s (elementOf s b) (PositionBytes.One (b % bit8)) (place + 1) ≡ character
-    in-gl =
-        let low-seven : b % bit8 ≡ b = omega arith in
-        ap (λ (e : Element). wroteCharacter to s e (PositionBytes.One (b % bit8)) (place + 1)) (shown-in-gl s b high) ∙
-        ap (λ (n : ℕ). wroteCharacter to s (s .gl) (PositionBytes.One n) (place + 1)) low-seven
-
-    one-in-gl : isOne (sizeIn s (elementOf s b)) ≡ true
-    one-in-gl = ap (λ (e : Element). isOne (sizeIn s e)) (shown-in-gl s b high) ∙ one
-
-    letter-in-gl : 0x21 ≤ b → b ≤ 0x7E → turn ≡ character
-    letter-in-gl l h =
-        letter-turn to s text place inside Single.Not (is-letter to s b (record {
-          low = omega arith;
-          high = omega arith;
-          has = gl-has (otherThan to) b low high;
-          one = one-in-gl;
-        })) ∙ in-gl
-
-    -- a character, or SPACE or DELETE; and how it is copied into GR
-    by-kind : (k : Kind) → kindOf (sizeIn s (s .gl)) ≡ k → {A : Type 0} →
-        (turn ≡ character → copiedBy (intoGR k) b ≡ b + bit8 → A) →
-        (kindOf (sizeIn s (s .gl)) ≡ Kind.Of94 → (word : ℕ) → turn ≡ wroteSpace to s b word (place + 1) → copiedBy (intoGR k) b ≡ b → A) →
-        A
-    by-kind Kind.Of94 is a o =
-        ⊎-elim
-        (λ l. ⊎-elim
-        (λ h. a (letter-in-gl (omega arith) (omega arith)) (with-bit-8 (intoGR Kind.Of94) b (omega arith) (omega arith) high))
-        (λ h.
-        let e : b ≡ delete = omega arith in
-        o is deleteWord
-        (delete-turn e is ∙ ap (λ (n : ℕ). wroteSpace to s n deleteWord (place + 1)) (sym e))
-        (as-it-is (intoGR Kind.Of94) b (above 0x21 0x7E b (omega arith))))
-        (less-or-not b delete))
-        (λ h.
-        let e : b ≡ space = omega arith in
-        o is spaceWord
-        (space-turn to s text place inside e is ∙ ap (λ (n : ℕ). wroteSpace to s n spaceWord (place + 1)) (sym e))
-        (as-it-is (intoGR Kind.Of94) b (below 0x21 0x7E b (omega arith))))
-        (less-or-not space b)
-    by-kind Kind.Of96 is a o =
-        a
-        (high-turn to s text place inside (gl-has (otherThan to) b low high) (omega arith)
-        (ap (λ (e : Element). kindOf (sizeIn s e)) (shown-in-gl s b high) ∙ is) one-in-gl ∙ in-gl)
-        (with-bit-8 (intoGR Kind.Of96) b (omega arith) (omega arith) high)
+plain-of : (m : Form) (cells : List ℕ) → laneOf m cells .plain ≡ lastPlain (sizeIn cells (leftIn cells))
+plain-of Form.Seven cells = refl
+plain-of Form.Eight cells = plain-with _ _
 
 -- ---- the ways
 
-nowhere : (b : ℕ) → between 1 0 b ≡ false
-nowhere b = ⊎-elim (below 1 0 b) (above 1 0 b) (less-or-not b 1)
+module _ (m to : Form) (cells text : List ℕ) (ground : singleIn cells ≡ 0) (gl : Element) (two : OfTwo gl) where
+  abbrev shown : ℕ
+  shown = elementNumber gl
 
--- SPACE and DELETE where the set that GL shows in the output is the same, of 94 type
-space-shifted : (s : State) (b word place : ℕ) → s .gl ≡ s .shown → kindOf (sizeIn s (s .gl)) ≡ Kind.Of94 →
-    wroteSpace Form.Seven s b word place ≡ writes s Single.Not word (b ∷ []) place
-space-shifted s b word place same is =
-    ap (λ (k : Kind). afterLocking (beforeSpace k) s word (b ∷ []) place)
-    (ap (λ (e : Element). kindOf (sizeIn s e)) (sym same) ∙ is)
+  abbrev Copying : Way → Type 0
+  Copying way = Copies m to cells shown text way
 
--- a character of G0 or G1 in 8-bit form
-of-g0 : (s : State) (b place : ℕ) → s .gl ≡ Element.G0 →
-    wroteCharacter Form.Eight s (s .gl) (PositionBytes.One b) place ≡ writes s Single.Not charWord (b ∷ []) place
-of-g0 s b place e = ap (λ (x : Element). wroteCharacter Form.Eight s x (PositionBytes.One b) place) e
+  -- what is to be shown of each kind of item
+  pub record Ways (way : Way) (place : ℕ) : Type 0 where
+    pub passes-lane : passes (laneOf m cells) (getD text place 0) ≡ true
+    pub of-control : getD text place 0 < space → copiedBy way (getD text place 0) ≡ getD text place 0
+    pub of-space : getD text place 0 ≡ space → kindOf (sizeIn cells (leftIn cells)) ≡ Of94 →
+        spaceIn to shown cells (space ∷ []) ≡ alone (copiedBy way (getD text place 0) ∷ []) shown
+    pub of-character : IsCharacter m cells text place →
+        characterIn to shown (elementOf cells (getD text place 0)) (getD text place 0 % bit8 ∷ []) ≡
+        alone (copiedBy way (getD text place 0) ∷ []) shown
 
-of-g1 : (s : State) (b place : ℕ) → s .gl ≡ Element.G1 → b < bit8 →
-    wroteCharacter Form.Eight s (s .gl) (PositionBytes.One b) place ≡ writes s Single.Not charWord ((b + bit8) ∷ []) place
-of-g1 s b place e h =
-    let raises : bit8 + b % bit8 ≡ b + bit8 = omega arith in
-    ap (λ (x : Element). wroteCharacter Form.Eight s x (PositionBytes.One b) place) e ∙
-    ap (λ (n : ℕ). writes s Single.Not charWord (n ∷ []) place) raises
+  copied : (way : Way) (place : ℕ) → Ways way place → LaneItem m cells text place → Copied m to cells shown text way place
+  unfolding writes
+  copied way place w (control low reads) = record {
+    word = controlWord;
+    value = getD text place 0;
+    bytes = getD text place 0 ∷ [];
+    no-refusal = λ e. omega arith;
+    reads = reads;
+    wrote =
+        control-of-c0 to (getD text place 0) shown (omega arith) ∙ ap (λ (n : ℕ). alone (n ∷ []) shown) (sym (w .of-control low));
+  }
+  copied way place w (space-sign is kind reads) = record {
+    word = spaceWord;
+    value = 0;
+    bytes = space ∷ [];
+    no-refusal = λ e. omega arith;
+    reads = reads;
+    wrote = w .of-space is kind;
+  }
+  copied way place w (character c) = record {
+    word = charWord;
+    value = elementOf cells (getD text place 0);
+    bytes = getD text place 0 % bit8 ∷ [];
+    no-refusal = λ e. omega arith;
+    reads = c .reads;
+    wrote = w .of-character c;
+  }
 
-module _ (s : State) (text : List ℕ) where
-  -- in GL: controls as they are, and whatever else
-  low-copies : (to : Form) (way : Way) → way .lane ≡ asTheyAre .lane → ((b : ℕ) → b < space → between (way .first) (way .last) b ≡ false) →
-      ((place : ℕ) → place < length text → space ≤ getD text place 0 → getD text place 0 < bit8 → Copied to s text way place) →
-      Copies to s text way
-  low-copies to way is quiet more place inside passed =
-      let b = getD text place 0 in
-      ⊎-elim
-      (λ w. absurd (omega arith))
-      (λ w. ⊎-elim
-      (λ l. quiet-copied to s text place inside way l (w .1, w .2, w .3) (quiet b l))
-      (λ l. more place inside l (omega arith))
-      (less-or-not b space))
-      (passes-means (asTheyAre .lane) b (subst (λ (x : Lane). passes x b ≡ true) is passed))
+  by-ways : (way : Way) → ((place : ℕ) → place < length text → passes (way .lane) (getD text place 0) ≡ true → Ways way place) → Copying way
+  by-ways way ways place inside passed =
+      let w = ways place inside passed in
+      copied way place w (lane-item m cells text place inside ground (w .passes-lane))
 
-  module _ (one : isOne (sizeIn s (s .gl)) ≡ true) where
+  -- bytes of GL, of a set of one byte
+  module _ (one : isOne (sizeIn cells (leftIn cells)) ≡ true) (way : Way) (plain : ℕ) (is : way .lane ≡ plainTo plain)
+      (few : plain ≤ lastPosition (kindOf (sizeIn cells (leftIn cells)))) where
     abbrev kind : Kind
-    kind = kindOf (sizeIn s (s .gl))
+    kind = kindOf (sizeIn cells (leftIn cells))
 
-    seven-low : sameOfTwo (s .gl) (s .shown) ≡ true → Copies Form.Seven s text asTheyAre
-    seven-low same =
-        low-copies Form.Seven asTheyAre refl (λ b l. nowhere b) (λ place inside low high.
+    low-ways : ((b : ℕ) → b < space → copiedBy way b ≡ b) → copiedBy way space ≡ space ⊎ (kind ≡ Of94 → ⊥) →
+        spaceIn to shown cells (space ∷ []) ≡ alone (space ∷ []) shown ⊎ (kind ≡ Of94 → ⊥) →
+        ((b : ℕ) → b < bit8 → firstPosition kind ≤ b → b ≤ lastPosition kind →
+        characterIn to shown (leftIn cells) (b ∷ []) ≡ alone (copiedBy way b ∷ []) shown) → Copying way
+    low-ways controls spaces signs characters =
+        by-ways way (λ place inside passed.
         let b = getD text place 0 in
-        let so-copied = copied-so Form.Seven s text place inside asTheyAre in
-        by-kind Form.Seven s text place inside low high one kind refl
-        (λ turn c. so-copied charWord b (turn ∙ shifted s b (place + 1) (s .gl) (s .shown) same) (as-it-is asTheyAre b (nowhere b)))
-        (λ is word turn c.
-        so-copied word b (turn ∙ space-shifted s b word (place + 1) (same-is (s .gl) (s .shown) same) is)
-        (as-it-is asTheyAre b (nowhere b))))
+        let through : passes (plainTo plain) b ≡ true = subst (λ (x : Lane). passes x b ≡ true) is passed in
+        let limit = plain-of m cells ∙ plain-by-kind (sizeIn cells (leftIn cells)) one in
+        let low : b < bit8 = ⊎-elim (λ w. absurd (omega arith)) (λ w. omega (arith, few, bounds-by-kind kind, w .0))
+        (passes-means (plainTo plain) b through) in
+        record {
+          passes-lane = passes-too (plainTo plain) (laneOf m cells) b through (λ l h. absurd (omega arith)) (λ h. omega (arith, limit, few));
+          of-control = controls b;
+          of-space = λ same of-94.
+              ⊎-elim (λ e. e) (λ never. absurd (never of-94)) signs ∙
+              ap (λ (n : ℕ). alone (n ∷ []) shown)
+              (sym (ap (copiedBy way) same ∙ ⊎-elim (λ e. e) (λ never. absurd (never of-94)) spaces));
+          of-character = λ c.
+              let e = shown-in-gl cells b low in
+              let low-seven : b % bit8 ≡ b = omega arith in
+              let k : kindOf (sizeIn cells (elementOf cells b)) ≡ kind = ap (λ (x : ℕ). kindOf (sizeIn cells x)) e in
+              ap (λ (x : ℕ). characterIn to shown x (b % bit8 ∷ [])) e ∙
+              ap (λ (x : ℕ). characterIn to shown (leftIn cells) (x ∷ [])) low-seven ∙
+              characters b low
+              (omega (arith, c .low, ap firstPosition k, low-seven)) (omega (arith, c .high, ap lastPosition k, low-seven));
+        })
 
-    eight-of-g0 : s .gl ≡ Element.G0 → Copies Form.Eight s text asTheyAre
-    eight-of-g0 is-g0 =
-        low-copies Form.Eight asTheyAre refl (λ b l. nowhere b) (λ place inside low high.
-        let b = getD text place 0 in
-        let so-copied = copied-so Form.Eight s text place inside asTheyAre in
-        by-kind Form.Eight s text place inside low high one kind refl
-        (λ turn c. so-copied charWord b (turn ∙ of-g0 s b (place + 1) is-g0) (as-it-is asTheyAre b (nowhere b)))
-        (λ is word turn c. so-copied word b turn (as-it-is asTheyAre b (nowhere b))))
-
-    quiet-into-gr : (k : Kind) (b : ℕ) → b < space → between (intoGR k .first) (intoGR k .last) b ≡ false
-    quiet-into-gr Kind.Of94 b h = below 0x21 0x7E b (omega arith)
-    quiet-into-gr Kind.Of96 b h = below 0x20 0x7F b (omega arith)
-
-    plain-into-gr : (k : Kind) → intoGR k .lane ≡ asTheyAre .lane
-    plain-into-gr Kind.Of94 = refl
-    plain-into-gr Kind.Of96 = refl
-
-    eight-of-g1 : s .gl ≡ Element.G1 → Copies Form.Eight s text (intoGR kind)
-    eight-of-g1 is-g1 =
-        low-copies Form.Eight (intoGR kind) (plain-into-gr kind) (quiet-into-gr kind) (λ place inside low high.
-        let b = getD text place 0 in
-        let so-copied = copied-so Form.Eight s text place inside (intoGR kind) in
-        by-kind Form.Eight s text place inside low high one kind refl
-        (λ turn c. so-copied charWord (b + bit8) (turn ∙ of-g1 s b (place + 1) is-g1 high) c)
-        (λ is word turn c. so-copied word b turn c))
-
-  -- of GR
-  module _ (one : isOne (sizeIn s (s .gr)) ≡ true) (same : sameOfTwo (s .gr) (s .shown) ≡ true) where
-    module _ (place : ℕ) (inside : place < length text) (high : bit8 ≤ getD text place 0) (most : getD text place 0 < 0x100) where
-      abbrev c : ℕ
-      c = getD text place 0
-
-      in-gr : wroteCharacter Form.Seven s (elementOf s c) (PositionBytes.One (c % bit8)) (place + 1) ≡
-          writes s Single.Not charWord ((c - bit8) ∷ []) (place + 1)
-      in-gr =
-          let lowers : c % bit8 ≡ c - bit8 = omega arith in
-          ap (λ (e : Element). wroteCharacter Form.Seven s e (PositionBytes.One (c % bit8)) (place + 1)) (shown-in-gr s c high) ∙
-          shifted s (c % bit8) (place + 1) (s .gr) (s .shown) same ∙
-          ap (λ (n : ℕ). writes s Single.Not charWord (n ∷ []) (place + 1)) lowers
-
-      one-in-gr : isOne (sizeIn s (elementOf s c)) ≡ true
-      one-in-gr = ap (λ (e : Element). isOne (sizeIn s e)) (shown-in-gr s c high) ∙ one
-
-    seven-high : (k : Kind) → kindOf (sizeIn s (s .gr)) ≡ k → Copies Form.Seven s text (intoGL k)
-    seven-high Kind.Of94 is place inside passed =
-        let b = getD text place 0 in
-        let way = intoGL Kind.Of94 in
-        ⊎-elim
-        (λ w.
-        let h : bit8 ≤ b = omega arith in
-        let m : b < 0x100 = omega arith in
-        copied-so Form.Seven s text place inside way charWord (b - bit8)
-        (letter-turn Form.Seven s text place inside Single.Not (is-letter Form.Seven s b (record {
-          low = omega arith;
-          high = omega arith;
-          has = eight-has b;
-          one = one-in-gr place inside h m;
-        })) ∙ in-gr place inside h m)
-        (without-bit-8 way b (w .0) (w .1) h))
-        (λ w. quiet-copied Form.Seven s text place inside way (omega arith) (w .1, w .2, w .3) (below 0xA1 0xFE b (omega arith)))
-        (passes-means (way .lane) b passed)
-    seven-high Kind.Of96 is place inside passed =
-        let b = getD text place 0 in
-        let way = intoGL Kind.Of96 in
-        ⊎-elim
-        (λ w.
-        let h : bit8 ≤ b = omega arith in
-        let m : b < 0x100 = omega arith in
-        copied-so Form.Seven s text place inside way charWord (b - bit8)
-        (high-turn Form.Seven s text place inside (eight-has b) (omega arith)
-        (ap (λ (e : Element). kindOf (sizeIn s e)) (shown-in-gr s b h) ∙ is) (one-in-gr place inside h m) ∙
-        in-gr place inside h m)
-        (without-bit-8 way b (w .0) (w .1) h))
-        (λ w. quiet-copied Form.Seven s text place inside way (omega arith) (w .1, w .2, w .3) (below 0xA0 0xFF b (omega arith)))
-        (passes-means (way .lane) b passed)
+  -- positions of a set of one byte in GR
+  high-ways : (one : isOne (sizeIn cells (rightIn cells)) ≡ true) → m ≡ Form.Eight → rightIn cells ≡ shown →
+      ((bytes : List ℕ) → characterIn to shown shown bytes ≡ alone bytes shown) → Copying (highLowered (kindOf (sizeIn cells (rightIn cells))))
+  high-ways one form same as-shown =
+      let k : Kind = kindOf (sizeIn cells (rightIn cells)) in
+      let way : Way = highLowered k in
+      let limits = bounds-by-kind k in
+      by-ways way (λ place inside passed.
+      let b = getD text place 0 in
+      let either = passes-means (positionsOf (space - 1) k) b passed in
+      let lane : laneOf m cells ≡ positionsOf (lastPlain (sizeIn cells (leftIn cells))) k =
+      ap (λ (f : Form). laneOf f cells) form ∙ lane-by-kind (lastPlain (sizeIn cells (leftIn cells))) (sizeIn cells (rightIn cells)) one in
+      record {
+        passes-lane = subst (λ (x : Lane). passes x b ≡ true) (sym lane)
+            (passes-too (positionsOf (space - 1) k) (positionsOf (lastPlain (sizeIn cells (leftIn cells))) k) b passed
+            (bound-passes (positionsOf (lastPlain (sizeIn cells (leftIn cells))) k) b)
+            (λ h. omega (arith, lowest-plain (sizeIn cells (leftIn cells)))));
+        of-control = λ low. as-it-is way b (inl (omega (arith, limits)));
+        of-space = λ is of-94. absurd (⊎-elim (λ w. omega (arith, w .0)) (λ w. omega (arith, w .0)) either);
+        of-character = λ c.
+            ⊎-elim
+            (λ w.
+            let high : bit8 ≤ b = omega (arith, w .0) in
+            let lowered : b % bit8 ≡ b - bit8 = omega (arith, w, limits) in
+            ap (λ (x : ℕ). characterIn to shown x (b % bit8 ∷ [])) (shown-in-gr cells b high ∙ same) ∙
+            as-shown (b % bit8 ∷ []) ∙
+            ap (λ (n : ℕ). alone (n ∷ []) shown) (lowered ∙ sym (without-bit-8 way b (w .0) (w .1) high)))
+            (λ w. absurd (let low = c .low in
+            omega (arith, w .0, low, lowest-first (kindOf (sizeIn cells (elementOf cells b))))))
+            either;
+      })
 
 -- ---- by a letter
 
-pub letter-in : (s : State) (b : ℕ) (e : Element) → elementOf s b ≡ e → isOne (sizeIn s (elementOf s b)) ≡ true → isOne (sizeIn s e) ≡ true
-letter-in s b e is one = ap (λ (x : Element). isOne (sizeIn s x)) (sym is) ∙ one
+pub form-of-gr : (m : Form) (b : ℕ) → formHas m b ≡ true → bit8 ≤ b → m ≡ Form.Eight
+form-of-gr Form.Seven b has high = absurd (omega (arith, seven-below b has, high))
+form-of-gr Form.Eight b has high = refl
 
-in-eight : (s : State) (text : List ℕ) (b : ℕ) → Letter Form.Eight s b → isOfTwo (s .gl) ≡ true → (gl : Element) → s .gl ≡ gl →
-    Copies Form.Eight s text (wayInEight gl (kindOf (sizeIn s (elementOf s b))))
-in-eight s text b l two gl is =
-    let e = shown-in-gl s b (seven-below b (l .has)) in
-    let one = letter-in s b (s .gl) e (l .one) in
-    by gl is e one
-  where
-    by : (gl : Element) → s .gl ≡ gl → elementOf s b ≡ s .gl → isOne (sizeIn s (s .gl)) ≡ true →
-        Copies Form.Eight s text (wayInEight gl (kindOf (sizeIn s (elementOf s b))))
-    by Element.G0 g e one = eight-of-g0 s text one g
-    by Element.G1 g e one =
-        subst (λ (x : Element). Copies Form.Eight s text (intoGR (kindOf (sizeIn s x)))) (sym e) (eight-of-g1 s text one g)
-    by Element.G2 g e one = impossible (cc)
-    by Element.G3 g e one = impossible (cc)
+module _ (m : Form) (cells text : List ℕ) (r : Reader) (s : Stands cells r) (gl : Element) (two : OfTwo gl) (b : ℕ)
+    (letter : isLetter m cells b ≡ true) where
+  abbrev l : Letter m cells b
+  l = letter-is m cells b letter
 
-pub letter-copies : (to : Form) (s : State) (text : List ℕ) (b : ℕ) → isLetter to s Single.Not b ≡ true → inOneByte to s b ≡ true →
-    Copies to s text (wayOf to s b)
-unfolding wayOf
-letter-copies Form.Seven s text b letter short =
-    let l = letter-is Form.Seven s b letter in
-    gives-by (Copies Form.Seven s text) (ltb b bit8)
-    (λ low.
-    let e = shown-in-gl s b (ltb-true b bit8 low) in
-    seven-low s text (letter-in s b (s .gl) e (l .one)) (ap (λ (x : Element). sameOfTwo x (s .shown)) (sym e) ∙ short))
-    (λ high.
-    let e = shown-in-gr s b (ltb-false b bit8 high) in
-    seven-high s text (letter-in s b (s .gr) e (l .one)) (ap (λ (x : Element). sameOfTwo x (s .shown)) (sym e) ∙ short)
-    (kindOf (sizeIn s (elementOf s b))) (ap (λ (x : Element). kindOf (sizeIn s x)) (sym e)))
-letter-copies Form.Eight s text b letter short = in-eight s text b (letter-is Form.Eight s b letter) short (s .gl) refl
+  one-in : (e : ℕ) → elementOf cells b ≡ e → isOne (sizeIn cells e) ≡ true
+  one-in e is = ap (λ (x : ℕ). isOne (sizeIn cells x)) (sym is) ∙ l .one
 
--- ---- the letter passes
+  -- what GL shows is an element
+  left-element : leftIn cells ≡ elementNumber (r .gl)
+  left-element = ap leftIn (s .has)
 
-high-passes : (k : Kind) (b : ℕ) → 0xA1 ≤ b → b ≤ 0xFE → passes (intoGL k .lane) b ≡ true
-high-passes Kind.Of94 b low high = bound-passes (intoGL Kind.Of94 .lane) b low high
-high-passes Kind.Of96 b low high = bound-passes (intoGL Kind.Of96 .lane) b (omega arith) (omega arith)
+  seven-low : b < bit8 → elementOf cells b ≡ elementNumber gl → Copies m Form.Seven cells (elementNumber gl) text lowAsItIs
+  unfolding writes
+  seven-low low same =
+      let e = shown-in-gl cells b low in
+      let is : leftIn cells ≡ elementNumber gl = sym e ∙ same in
+      low-ways m Form.Seven cells text (l .ground) gl two (one-in (leftIn cells) e) lowAsItIs (delete - 1) refl
+      (omega (arith, bounds-by-kind (kindOf (sizeIn cells (leftIn cells)))))
+      (λ n h. as-it-is lowAsItIs n (nowhere-low n))
+      (inl (as-it-is lowAsItIs space (nowhere-low space)))
+      (of-94-or-not (kindOf (sizeIn cells (leftIn cells))) refl is)
+      (λ n h low high.
+      ap (λ (x : ℕ). inSeven (elementNumber gl) x (n ∷ [])) is ∙ shown-in-seven gl two (n ∷ []) ∙
+      ap (λ (x : ℕ). alone (x ∷ []) (elementNumber gl)) (sym (as-it-is lowAsItIs n (nowhere-low n))))
+    where
+      of-94-or-not : (k : Kind) → kindOf (sizeIn cells (leftIn cells)) ≡ k → leftIn cells ≡ elementNumber gl →
+          (spaceIn Form.Seven (elementNumber gl) cells (space ∷ []) ≡ alone (space ∷ []) (elementNumber gl)) ⊎
+          (kindOf (sizeIn cells (leftIn cells)) ≡ Of94 → ⊥)
+      of-94-or-not Of94 k is =
+          inl (ap (λ (x : Kind). underKind x (elementNumber gl) (space ∷ []))
+          (ap (λ (x : ℕ). kindOf (sizeIn cells x)) (sym is) ∙ k))
+      of-94-or-not Of96 k is = inr (λ other. impossible (cc))
 
-low-passes : (gl : Element) (k : Kind) (b : ℕ) → space ≤ b → b < bit8 → passes (wayInEight gl k .lane) b ≡ true
-low-passes Element.G0 k b low high = plain-passes (asTheyAre .lane) b low (omega arith)
-low-passes Element.G1 Kind.Of94 b low high = plain-passes (asTheyAre .lane) b low (omega arith)
-low-passes Element.G1 Kind.Of96 b low high = plain-passes (asTheyAre .lane) b low (omega arith)
-low-passes Element.G2 k b low high = plain-passes (asTheyAre .lane) b low (omega arith)
-low-passes Element.G3 k b low high = plain-passes (asTheyAre .lane) b low (omega arith)
+  eight-as-it-is : b < bit8 → elementOf cells b < elementNumber Element.G2 → (elementOf cells b ≡ elementNumber Element.G1 → ⊥) →
+      Copies m Form.Eight cells (elementNumber gl) text lowAsItIs
+  unfolding inEight
+  eight-as-it-is low few other =
+      let e = shown-in-gl cells b low in
+      let is : r .gl ≡ Element.G0 =
+      g0-by-number (r .gl) (omega (arith, few, e, left-element)) (λ same. other (e ∙ left-element ∙ same)) in
+      low-ways m Form.Eight cells text (l .ground) gl two (one-in (leftIn cells) e) lowAsItIs (delete - 1) refl
+      (omega (arith, bounds-by-kind (kindOf (sizeIn cells (leftIn cells)))))
+      (λ n h. as-it-is lowAsItIs n (nowhere-low n))
+      (inl (as-it-is lowAsItIs space (nowhere-low space)))
+      (inl refl)
+      (λ n h low high.
+      ap (λ (x : ℕ). inEight (elementNumber gl) x (n ∷ [])) (left-element ∙ ap elementNumber is) ∙
+      ap (λ (x : ℕ). alone (x ∷ []) (elementNumber gl)) (sym (as-it-is lowAsItIs n (nowhere-low n))))
 
-pub letter-passes : (to : Form) (s : State) (b : ℕ) → isLetter to s Single.Not b ≡ true → b < 0x100 →
-    passes (wayOf to s b .lane) b ≡ true
-unfolding wayOf
-letter-passes Form.Seven s b letter most =
-    let l = letter-is Form.Seven s b letter in
-    let low = l .low in
-    let high = l .high in
-    gives-by (λ (w : Way). passes (w .lane) b ≡ true) (ltb b bit8)
-    (λ t. let h = ltb-true b bit8 t in plain-passes (asTheyAre .lane) b (omega arith) (omega arith))
-    (λ t. let h = ltb-false b bit8 t in high-passes (kindOf (sizeIn s (elementOf s b))) b (omega arith) (omega arith))
-letter-passes Form.Eight s b letter most =
-    let l = letter-is Form.Eight s b letter in
-    let low = l .low in
-    let h = seven-below b (l .has) in
-    low-passes (s .gl) (kindOf (sizeIn s (elementOf s b))) b (omega arith) h
+  eight-raised : b < bit8 → elementOf cells b ≡ elementNumber Element.G1 →
+      Copies m Form.Eight cells (elementNumber gl) text (lowRaised (kindOf (sizeIn cells (leftIn cells))))
+  unfolding inEight
+  eight-raised low same =
+      let e = shown-in-gl cells b low in
+      let k : Kind = kindOf (sizeIn cells (leftIn cells)) in
+      let way : Way = lowRaised k in
+      low-ways m Form.Eight cells text (l .ground) gl two (one-in (leftIn cells) e) way (lastPosition k) refl (omega arith)
+      (λ n h. as-it-is way n (inl (omega (arith, lowest-first k))))
+      (space-stays k)
+      (inl refl)
+      (λ n h low high.
+      let raised : bit8 + n % bit8 ≡ n + bit8 = omega arith in
+      ap (λ (x : ℕ). inEight (elementNumber gl) x (n ∷ [])) (sym e ∙ same) ∙
+      ap (λ (x : ℕ). alone (x ∷ []) (elementNumber gl)) (raised ∙ sym (with-bit-8 way n low high h)))
+    where
+      space-stays : (k : Kind) → (copiedBy (lowRaised k) space ≡ space) ⊎ (k ≡ Of94 → ⊥)
+      space-stays Of94 = inl (as-it-is (lowRaised Of94) space (inl (omega arith)))
+      space-stays Of96 = inr (λ other. impossible (cc))
+
+  pub letter-copies : (to : Form) → inOneByte to (elementNumber gl) (elementOf cells b) b ≡ true →
+      Copies m to cells (elementNumber gl) text (wayOf to cells b)
+  unfolding wayOf inOneByte
+  letter-copies Form.Seven short =
+      let same : elementOf cells b ≡ elementNumber gl = eqb-true _ _ short in
+      gives-by (Copies m Form.Seven cells (elementNumber gl) text) (ltb b bit8)
+      (λ t. seven-low (ltb-true b bit8 t) same)
+      (λ t.
+      let high = ltb-false b bit8 t in
+      let e = shown-in-gr cells b high in
+      subst (λ (x : ℕ). Copies m Form.Seven cells (elementNumber gl) text (highLowered (kindOf (sizeIn cells x)))) (sym e)
+      (high-ways m Form.Seven cells text (l .ground) gl two (one-in (rightIn cells) e) (form-of-gr m b (l .has) high) (sym e ∙ same)
+      (shown-in-seven gl two)))
+  letter-copies Form.Eight short =
+      let w = both-true (ltb b bit8) _ short in
+      let low = ltb-true b bit8 (w .0) in
+      let few = ltb-true _ _ (w .1) in
+      let e = shown-in-gl cells b low in
+      gives-by (Copies m Form.Eight cells (elementNumber gl) text) (eqb (elementOf cells b) (elementNumber Element.G1))
+      (λ t. subst (λ (x : ℕ). Copies m Form.Eight cells (elementNumber gl) text (lowRaised (kindOf (sizeIn cells x)))) (sym e)
+      (eight-raised low (eqb-true _ _ t)))
+      (λ t. eight-as-it-is low few (eqb-false _ _ t))
+
+  -- the letter passes
+  pub letter-passes : (to : Form) → b < 0x100 → inOneByte to (elementNumber gl) (elementOf cells b) b ≡ true →
+      passes (wayOf to cells b .lane) b ≡ true
+  unfolding wayOf inOneByte
+  letter-passes Form.Seven most short =
+      gives-by (λ (w : Way). passes (w .lane) b ≡ true) (ltb b bit8)
+      (λ t. let low = ltb-true b bit8 t in
+      plain-passes (lowAsItIs .lane) b (omega (arith, l .low)) (omega (arith, l .high)))
+      (λ t.
+      let high = ltb-false b bit8 t in
+      let limits = bounds-by-kind (kindOf (sizeIn cells (elementOf cells b))) in
+      bound-passes (highLowered (kindOf (sizeIn cells (elementOf cells b))) .lane) b
+      (omega (arith, limits, l .low)) (omega (arith, limits, l .high)))
+  letter-passes Form.Eight most short =
+      let low = ltb-true b bit8 (both-true (ltb b bit8) _ short .0) in
+      let limits = bounds-by-kind (kindOf (sizeIn cells (elementOf cells b))) in
+      gives-by (λ (w : Way). passes (w .lane) b ≡ true) (eqb (elementOf cells b) (elementNumber Element.G1))
+      (λ _. plain-passes (lowRaised (kindOf (sizeIn cells (elementOf cells b))) .lane) b (omega (arith, l .low)) (omega (arith, limits, l .high)))
+      (λ _. plain-passes (lowAsItIs .lane) b (omega (arith, l .low)) (omega (arith, l .high)))

@@ -1,3 +1,4 @@
 pub mod Passes
 pub mod Passing
 pub mod Runs
+pub mod Writing

@@ -8,18 +8,20 @@ use lib.ListN.{length, drop}
 use Rattle.paper.specs.Answering.{endOfText}
 use Rattle.paper.specs.Texts.{readerAfter, answersFrom}
 use Rattle.paper.specs.LentBuffers.{over}
+use Rattle.paper.specs.Results.{elementNumber}
 use Rattle.paper.specs.Surveying.{firstRefusal, firstOf}
-use Rattle.paper.specs.WrittenForms.{sequenceIn, writtenFrom}
+use Rattle.paper.specs.WrittenForms.{Writer, sequenceIn, writtenFrom}
 use Rattle.paper.specs.Conversions.{refusalAtEnd, refusalIn, output}
 use Rattle.paper.specs.declared.Form.{Form}
 use Rattle.paper.specs.declared.Element.{Element}
 use Rattle.paper.specs.declared.Reader.{Reader}
 use Rattle.paper.specs.declared.FirstRefusal.{FirstRefusal}
 use Rattle.paper.proofs.LawfulAnswers.{IsInStep}
-use Rattle.items.specs.OtherForm.{otherThan}
-use Rattle.items.specs.States.{stateOf, standingOf, beside}
-use Rattle.items.specs.declared.state.Single.{Single}
-use Rattle.items.specs.declared.state.State.{State}
+use Rattle.items.specs.States.{Stands}
+
+-- the writer beside a reader has the reader's sets
+abbrev pub beside : Reader → Element → Writer
+beside r gl = record { sets = r .sets; gl = gl }
 
 -- the rest of the output, and the refusal of what is left
 abbrev pub restFrom : Form → Reader → Element → ℕ → List ℕ → List ℕ
@@ -30,24 +32,30 @@ refusalFrom r place text =
     firstOf (firstRefusal (answersFrom place r (drop place text)))
     (refusalAtEnd (endOfText (readerAfter r (drop place text))) (length text))
 
-abbrev pub outputTo : Form → List ℕ → List ℕ
-outputTo to text = output (otherThan to) to text
-
-pub record Passing (to : Form) (text lent : List ℕ) (r : Reader) (gl : Element) (at place : ℕ) (buffer : List ℕ) : Type 0 where
+-- of a text in the first form that is written in the second
+pub record Passing (m to : Form) (text lent : List ℕ) (r : Reader) (gl : Element) (at place : ℕ) (buffer : List ℕ) : Type 0 where
   pub within : place ≤ length text
   pub in-step : IsInStep (r .standing)
-  pub form : r .form ≡ otherThan to
-  pub refused : refusalFrom r place text ≡ refusalIn (otherThan to) text
+  pub form : r .form ≡ m
+  pub refused : refusalFrom r place text ≡ refusalIn m text
   pub so-far : List ℕ
-  pub whole : so-far ++ restFrom to r gl place text ≡ outputTo to text
+  pub whole : so-far ++ restFrom to r gl place text ≡ output m to text
   pub counted : length so-far ≡ at
   pub as-long : length buffer ≡ length lent
-  pub wrote : length (outputTo to text) ≤ length lent → buffer ≡ over so-far lent
+  pub wrote : length (output m to text) ≤ length lent → buffer ≡ over so-far lent
 
--- the same of what a conversion knows: some reader has this state and stands so
-pub record Passes (to : Form) (text lent : List ℕ) (s : State) (t : Single) (at place : ℕ) (buffer : List ℕ) : Type 0 where
+-- GL shows G0 or G1 in the output
+abbrev pub OfTwo : Element → Type 0
+OfTwo Element.G0 = Unit {0}
+OfTwo Element.G1 = Unit {0}
+OfTwo Element.G2 = ⊥
+OfTwo Element.G3 = ⊥
+
+-- the same of what a pass knows: some reader stands so
+pub record Passes (m to : Form) (text lent cells : List ℕ) (shown at place : ℕ) (buffer : List ℕ) : Type 0 where
   pub reader : Reader
-  pub shown : Element
-  pub has : s ≡ stateOf reader shown
-  pub stands : reader .standing ≡ standingOf t
-  pub passing : Passing to text lent reader shown at place buffer
+  pub gl : Element
+  pub shown-is : shown ≡ elementNumber gl
+  pub of-two : OfTwo gl
+  pub stands : Stands cells reader
+  pub passing : Passing m to text lent reader gl at place buffer

@@ -9,47 +9,39 @@ use lib.ListN.{length, getD}
 use Rattle.paper.specs.Choice.{_gives_or_, between}
 use Rattle.paper.specs.CodeTable.{bit8, so, si}
 use Rattle.paper.specs.Sets.{space, delete}
+use Rattle.paper.specs.Results.{elementNumber, refusedWord}
 use Rattle.paper.specs.declared.Form.{Form}
 use Rattle.paper.specs.declared.Kind.{Kind}
+use Rattle.paper.specs.declared.Count.{Count}
 use Rattle.paper.specs.declared.Element.{Element}
+use Rattle.charsets.specs.Sizes.{sizeNumber, kindOf}
+use Rattle.escapes.specs.Effects.{plain}
+use Rattle.items.specs.States.{leftIn, rightIn, sizeIn, elementOf}
+use Rattle.items.specs.Items.{itemAt}
+use Rattle.items.specs.Letters.{isLetter}
 use Rattle.lane.specs.Passing.{passes}
-use Rattle.items.specs.States.{kindOf, sizeIn}
-use Rattle.items.specs.Turns.{writes}
-use Rattle.items.specs.Items.{turnAt}
-use Rattle.items.specs.Letters.{elementOf}
-use Rattle.items.specs.declared.state.Single.{Single}
-use Rattle.items.specs.declared.state.State.{State}
+use Rattle.lane.specs.Lanes.{firstPosition, lastPosition, plainTo, positionsOf}
+use Rattle.lane.specs.Gaps as lane
+use Rattle.converter.specs.Writing.{alone, writes}
 use Rattle.converter.specs.declared.run.Way.{Way}
+use Rattle.converter.specs.declared.run.Run.{Run}
 
--- no byte stands within these bounds
-abbrev pub asTheyAre : Way
-asTheyAre = record { lane = record { plain = delete; first = 1; last = 0 }; first = 1; last = 0 }
+-- bytes of GL as they are; no byte stands within the bounds
+abbrev pub lowAsItIs : Way
+lowAsItIs = record { lane = plainTo (delete - 1); first = 1; last = 0 }
 
-abbrev pub raised : ℕ → ℕ → Way
-raised first last = record { lane = record { plain = delete; first = 1; last = 0 }; first = first; last = last }
+-- positions of a set in GL are written in GR, and those of one in GR are written in GL
+abbrev pub lowRaised : Kind → Way
+lowRaised k = record { lane = plainTo (lastPosition k); first = firstPosition k; last = lastPosition k }
 
-abbrev pub intoGR : Kind → Way
-intoGR Kind.Of94 = raised (space + 1) (delete - 1)
-intoGR Kind.Of96 = raised space delete
+abbrev pub highLowered : Kind → Way
+highLowered k = record { lane = positionsOf (space - 1) k; first = bit8 + firstPosition k; last = bit8 + lastPosition k }
 
-abbrev pub lowered : ℕ → ℕ → Way
-lowered first last = record { lane = record { plain = space - 1; first = first; last = last }; first = first; last = last }
-
-abbrev pub intoGL : Kind → Way
-intoGL Kind.Of94 = lowered (bit8 + space + 1) (bit8 + delete - 1)
-intoGL Kind.Of96 = lowered (bit8 + space) (bit8 + delete)
-
--- in 8-bit form characters of G1 are of GR
-abbrev pub wayInEight : Element → Kind → Way
-wayInEight Element.G0 k = asTheyAre
-wayInEight Element.G1 k = intoGR k
-wayInEight Element.G2 k = asTheyAre
-wayInEight Element.G3 k = asTheyAre
-
--- by the byte of a letter
-unfoldable pub wayOf : Form → State → ℕ → Way
-wayOf Form.Seven s b = ltb b bit8 gives asTheyAre or intoGL (kindOf (sizeIn s (elementOf s b)))
-wayOf Form.Eight s b = wayInEight (s .gl) (kindOf (sizeIn s (elementOf s b)))
+-- by the byte of a letter: in 8-bit form characters of G1 are of GR
+unfoldable pub wayOf : Form → List ℕ → ℕ → Way
+wayOf Form.Seven cells b = ltb b bit8 gives lowAsItIs or highLowered (kindOf (sizeIn cells (elementOf cells b)))
+wayOf Form.Eight cells b =
+    eqb (elementOf cells b) (elementNumber Element.G1) gives lowRaised (kindOf (sizeIn cells (elementOf cells b))) or lowAsItIs
 
 -- bit 8 is changed within the bounds
 unfoldable pub copiedBy : Way → ℕ → ℕ
@@ -60,59 +52,48 @@ abbrev pub copiedBytes : Way → List ℕ → ℕ → ℕ → List ℕ
 copiedBytes way text place zero = []
 copiedBytes way text place (suc n) = copiedBytes way text place n ++ (copiedBy way (getD text (place + n) 0) ∷ [])
 
--- a byte that is copied, whatever its word, and leaves the state as it is
-pub record Copied (to : Form) (s : State) (text : List ℕ) (way : Way) (place : ℕ) : Type 0 where
+-- a byte that is an item which changes nothing, and is written as its copy
+pub record Copied (m to : Form) (cells : List ℕ) (shown : ℕ) (text : List ℕ) (way : Way) (place : ℕ) : Type 0 where
   pub word : ℕ
-  pub turns : turnAt to s Single.Not text place ≡ writes s Single.Not word (copiedBy way (getD text place 0) ∷ []) (place + 1)
+  pub value : ℕ
+  pub bytes : List ℕ
+  pub no-refusal : word ≡ refusedWord → ⊥
+  pub reads : itemAt m cells text place ≡ record { effect = plain word value; bytes = bytes; place = place + 1 }
+  pub wrote : writes to shown cells (plain word value) bytes ≡ alone (copiedBy way (getD text place 0) ∷ []) shown
 
 -- every byte that passes is
-abbrev pub Copies : Form → State → List ℕ → Way → Type 0
-Copies to s text way = (place : ℕ) → place < length text → passes (way .lane) (getD text place 0) ≡ true → Copied to s text way place
+abbrev pub Copies : Form → Form → List ℕ → ℕ → List ℕ → Way → Type 0
+Copies m to cells shown text way =
+    (place : ℕ) → place < length text → passes (way .lane) (getD text place 0) ≡ true → Copied m to cells shown text way place
 
 -- ---- between words
 
--- SPACE is SPACE in GL, and takes SI where GL shows the set in the output
-abbrev pub spaceShifts : Kind → Kind → Bool
-spaceShifts Kind.Of94 Kind.Of94 = false
-spaceShifts Kind.Of94 Kind.Of96 = true
-spaceShifts Kind.Of96 k = false
-
-abbrev pub gapInSeven : Element → Element → Kind → Kind → Bool
-gapInSeven Element.G0 Element.G0 j k = false
-gapInSeven Element.G0 Element.G1 j k = spaceShifts j k
-gapInSeven Element.G0 Element.G2 j k = false
-gapInSeven Element.G0 Element.G3 j k = false
-gapInSeven Element.G1 e j k = false
-gapInSeven Element.G2 e j k = false
-gapInSeven Element.G3 e j k = false
-
-abbrev pub isOf94 : Kind → Bool
-isOf94 Kind.Of94 = true
-isOf94 Kind.Of96 = false
-
-abbrev pub gapInEight : Element → Kind → Bool
-gapInEight Element.G0 k = false
-gapInEight Element.G1 k = isOf94 k
-gapInEight Element.G2 k = false
-gapInEight Element.G3 k = false
+-- SPACE is SPACE in GL and takes SI, and the letter of GR after it takes SO
+unfoldable pub gapInSeven : List ℕ → Bool
+gapInSeven cells =
+    eqb (leftIn cells) (elementNumber Element.G0) gives
+    (eqb (rightIn cells) (elementNumber Element.G1) gives
+    (eqb (sizeIn cells (elementNumber Element.G0)) (sizeNumber Kind.Of94 Count.One) gives
+    eqb (sizeIn cells (elementNumber Element.G1)) (sizeNumber Kind.Of96 Count.One) or
+    false) or
+    false) or
+    false
 
 -- by the byte of a letter
-unfoldable pub hasGaps : Form → State → ℕ → Bool
-hasGaps Form.Seven s b = ltb b bit8 gives false or gapInSeven (s .gl) (s .gr) (kindOf (s .g0)) (kindOf (s .g1))
-hasGaps Form.Eight s b = gapInEight (s .gl) (kindOf (s .g0))
+unfoldable pub hasGaps : Form → List ℕ → ℕ → Bool
+hasGaps Form.Seven cells b = ltb b bit8 gives false or gapInSeven cells
+hasGaps Form.Eight cells b = lane.hasGaps cells
 
--- SPACE and a letter of GR; or SI, SPACE and SO
-unfoldable pub gapAhead : Form → List ℕ → ℕ → Bool
-gapAhead Form.Seven text place =
+-- SPACE and a letter of GR
+unfoldable pub spaceAhead : List ℕ → ℕ → Bool
+spaceAhead text place =
     leb (place + 2) (length text) gives
     (eqb (getD text place 0) space gives between (bit8 + space + 1) (bit8 + delete - 1) (getD text (place + 1) 0) or false) or
     false
-gapAhead Form.Eight text place =
-    leb (place + 3) (length text) gives
-    (eqb (getD text place 0) si gives
-    (eqb (getD text (place + 1) 0) space gives eqb (getD text (place + 2) 0) so or false) or
-    false) or
-    false
+
+abbrev pub gapAhead : Form → List ℕ → ℕ → Bool
+gapAhead Form.Seven text place = spaceAhead text place
+gapAhead Form.Eight text place = lane.gapAhead text place
 
 abbrev pub gapLength : Form → ℕ
 gapLength Form.Seven = 2
@@ -124,25 +105,16 @@ gapBytes Form.Eight text place = space ∷ []
 
 -- ---- where a run begins
 
-abbrev pub sameOfTwo : Element → Element → Bool
-sameOfTwo Element.G0 Element.G0 = true
-sameOfTwo Element.G0 Element.G1 = false
-sameOfTwo Element.G0 Element.G2 = false
-sameOfTwo Element.G0 Element.G3 = false
-sameOfTwo Element.G1 Element.G0 = false
-sameOfTwo Element.G1 Element.G1 = true
-sameOfTwo Element.G1 Element.G2 = false
-sameOfTwo Element.G1 Element.G3 = false
-sameOfTwo Element.G2 e = false
-sameOfTwo Element.G3 e = false
+-- a letter of an element that is written in one byte
+unfoldable pub inOneByte : Form → ℕ → ℕ → ℕ → Bool
+inOneByte Form.Seven shown element b = eqb element shown
+inOneByte Form.Eight shown element b = ltb b bit8 gives ltb element (elementNumber Element.G2) or false
 
-abbrev pub isOfTwo : Element → Bool
-isOfTwo Element.G0 = true
-isOfTwo Element.G1 = true
-isOfTwo Element.G2 = false
-isOfTwo Element.G3 = false
+-- a run begins with this byte
+pub record Begins (m to : Form) (cells : List ℕ) (shown b : ℕ) : Type 0 where
+  pub letter : isLetter m cells b ≡ true
+  pub short : inOneByte to shown (elementOf cells b) b ≡ true
 
--- a letter that is written in one byte
-abbrev pub inOneByte : Form → State → ℕ → Bool
-inOneByte Form.Seven s b = sameOfTwo (elementOf s b) (s .shown)
-inOneByte Form.Eight s b = isOfTwo (s .gl)
+-- where a run ends
+abbrev pub runTo : ℕ → ℕ → Run
+runTo place at = record { place = place; at = at }

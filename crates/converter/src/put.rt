@@ -9,7 +9,7 @@ ghost use Rattle.paper.specs.Refusals.{longestText};
 ghost use Rattle.items.specs.Pieces.{bytesIn};
 
 // The third, fourth and fifth place of a piece's number.
-const THIRD: u64 = 0x10000;
+pub(crate) const THIRD: u64 = 0x10000;
 
 const FOURTH: u64 = 0x1000000;
 

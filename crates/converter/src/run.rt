@@ -2,14 +2,22 @@
 // and between words, what stands there for a space.
 use crate::put::put_byte;
 use charsets::DELETE;
+use charsets::OF_94;
+use charsets::OF_96;
 use charsets::SPACE;
+use charsets::kind_of;
 use codetable::BIT_8;
 use codetable::SI;
 use codetable::SO;
-use items::letter::element_of;
-use items::state::Size;
-use items::state::State;
-use items::state::kind_of;
+use codetable::between;
+use escapes::effect::ElementNumber;
+use escapes::effect::G0;
+use escapes::effect::G1;
+use escapes::effect::G2;
+use items::state::CELLS;
+use items::state::element_of;
+use items::state::left;
+use items::state::right;
 use items::state::size_in;
 use lane::BLOCK;
 use lane::FIRST_OF_NONE;
@@ -17,8 +25,7 @@ use lane::LAST_OF_NONE;
 use lane::Lane;
 use lane::block_ahead;
 use lane::byte_ahead;
-use lane::within;
-use paper::Element;
+use lane::word_ahead;
 use paper::Form;
 use paper::Kind;
 ghost use Prim.Native.Nat.{ℕ, _+_, _-_, _*_, _≤_, _<_};
@@ -29,13 +36,10 @@ ghost use lib.ListN.{length, getD};
 ghost use lib.Seq.{sets};
 ghost use Rattle.paper.specs.Refusals.{longestText};
 ghost use Rattle.paper.specs.declared.Form.{Form};
-ghost use Rattle.items.specs.States.{kindOf};
-ghost use Rattle.items.specs.Letters.{isLetter};
-ghost use Rattle.items.specs.declared.state.State.{State};
-ghost use Rattle.items.specs.declared.state.Single.{Single};
+ghost use Rattle.items.specs.States.{singleIn};
 ghost use Rattle.converter.specs.Passing.{Passes};
-ghost use Rattle.converter.specs.Runs.{asTheyAre, intoGR, intoGL, wayOf, copiedBy, copiedBytes, Copies, spaceShifts, gapInSeven};
-ghost use Rattle.converter.specs.Runs.{gapInEight, hasGaps, gapAhead, gapLength, gapBytes, sameOfTwo, inOneByte};
+ghost use Rattle.converter.specs.Runs.{lowAsItIs, lowRaised, highLowered, wayOf, copiedBy, copiedBytes, Copies, gapInSeven, hasGaps};
+ghost use Rattle.converter.specs.Runs.{spaceAhead, gapAhead, gapLength, gapBytes, inOneByte, Begins, runTo};
 
 // What passes, and the bounds of the bytes that are written with bit 8 changed.
 struct Way {
@@ -44,13 +48,13 @@ struct Way {
     last: u8,
 }
 
-// Bytes below 128 are written as they are.
-fn as_they_are() -> Way
-    ensures { λ r. ⌜ r ≡ asTheyAre ⌝ }
+// Bytes of GL, as they are.
+fn low_as_it_is() -> Way
+    ensures { λ r. ⌜ r ≡ lowAsItIs ⌝ }
 {
     Way {
         lane: Lane {
-            plain: BIT_8 - 1,
+            plain: DELETE - 1,
             first: FIRST_OF_NONE,
             last: LAST_OF_NONE,
         },
@@ -60,13 +64,13 @@ fn as_they_are() -> Way
 }
 
 // Positions of a set in GL are written in GR, all else below 128 as it is.
-fn into_gr(kind: Kind) -> Way
-    ensures { λ r. ⌜ r ≡ intoGR kind ⌝ }
+fn low_raised(kind: Kind) -> Way
+    ensures { λ r. ⌜ r ≡ lowRaised kind ⌝ }
 {
     match kind {
         Kind::Of94 => Way {
             lane: Lane {
-                plain: BIT_8 - 1,
+                plain: DELETE - 1,
                 first: FIRST_OF_NONE,
                 last: LAST_OF_NONE,
             },
@@ -75,7 +79,7 @@ fn into_gr(kind: Kind) -> Way
         },
         Kind::Of96 => Way {
             lane: Lane {
-                plain: BIT_8 - 1,
+                plain: DELETE,
                 first: FIRST_OF_NONE,
                 last: LAST_OF_NONE,
             },
@@ -86,8 +90,8 @@ fn into_gr(kind: Kind) -> Way
 }
 
 // Positions of a set in GR are written in GL, and controls as they are.
-fn into_gl(kind: Kind) -> Way
-    ensures { λ r. ⌜ r ≡ intoGL kind ⌝ }
+fn high_lowered(kind: Kind) -> Way
+    ensures { λ r. ⌜ r ≡ highLowered kind ⌝ }
 {
     match kind {
         Kind::Of94 => Way {
@@ -111,11 +115,35 @@ fn into_gl(kind: Kind) -> Way
     }
 }
 
+// The way of a run, by the letter that it begins with.
+fn way_of(to: Form, state: &[u8; CELLS], byte: u8) -> Way
+    ensures { λ r. ⌜ r ≡ wayOf to (now (state .entry)) byte ⌝ }
+{
+    let element = element_of(state, byte);
+    let kind = kind_of(size_in(state, element));
+    match to {
+        Form::Seven => {
+            if byte < BIT_8 {
+                low_as_it_is()
+            } else {
+                high_lowered(kind)
+            }
+        }
+        Form::Eight => {
+            if element.0 == G1 {
+                low_raised(kind)
+            } else {
+                low_as_it_is()
+            }
+        }
+    }
+}
+
 // With bit 8 changed where it is to be.
 fn copied(way: Way, byte: u8) -> u8
     ensures { λ r. ⌜ r ≡ copiedBy way byte ⌝ }
 {
-    if within(way.first, way.last, byte) {
+    if between(way.first, way.last, byte) {
         if byte < BIT_8 {
             byte + BIT_8
         } else {
@@ -149,50 +177,28 @@ fn copy_blocks(way: Way, text: &[u8], place: usize, buffer: &mut [u8], at: usize
     requires { ⌜ (place ≤ length (now text)) × (length (now text) ≤ longestText) × (at ≤ 7 * longestText) ⌝ }
     ensures { λ r. ⌜ (place ≤ r) × (r ≤ length (now (text .entry))) ⌝ }
     ensures { λ r. ⌜
-        ((to : Form) →
-        (state : State) →
+        ((m : Form) →
+        (to : Form) →
+        (cells : List ℕ) →
+        (shown : ℕ) →
         (lent : List ℕ) →
-        Copies to state (now (text .entry)) way →
-        Passes to (now (text .entry)) lent state Single.Not at place (now (buffer .entry)) →
-        Passes to (now (text .entry)) lent state Single.Not (at + (r - place)) r (now (buffer .exit)))
+        singleIn cells ≡ 0 →
+        Copies m to cells shown (now (text .entry)) way →
+        Passes m to (now (text .entry)) lent cells shown at place (now (buffer .entry)) →
+        Passes m to (now (text .entry)) lent cells shown (at + (r - place)) r (now (buffer .exit)))
         ⌝ }
 {
     let mut here = place;
-    let mut there = at;
+    let mut put = at;
     let lane = way.lane;
     while block_ahead(lane, text, here) {
-        if there + BLOCK <= buffer.len() {
-            copy_block(way, text, here, buffer, there);
+        if put + BLOCK <= buffer.len() {
+            copy_block(way, text, here, buffer, put);
         }
         here += BLOCK;
-        there += BLOCK;
+        put += BLOCK;
     }
     here
-}
-
-// The way of a run, by the letter that it begins with.
-fn way_of(to: Form, state: State, byte: u8) -> Way
-    ensures { λ r. ⌜ r ≡ wayOf to state byte ⌝ }
-{
-    let kind = kind_of(size_in(state, element_of(state, byte)));
-    match to {
-        Form::Seven => {
-            if byte < BIT_8 {
-                as_they_are()
-            } else {
-                into_gl(kind)
-            }
-        }
-        Form::Eight => {
-            let gl = state.gl;
-            match gl {
-                Element::G0 => as_they_are(),
-                Element::G1 => into_gr(kind),
-                Element::G2 => as_they_are(),
-                Element::G3 => as_they_are(),
-            }
-        }
-    }
 }
 
 // Where a run ends, in the text and in the output.
@@ -201,58 +207,38 @@ pub(crate) struct Run {
     pub(crate) at: usize,
 }
 
-// Whether SPACE is SPACE in GL, and takes SI where GL shows G1 in the output.
-fn space_shifts(g0: Size, g1: Size) -> bool
-    ensures { λ r. ⌜ r ≡ spaceShifts (kindOf g0) (kindOf g1) ⌝ }
+fn run_to(place: usize, at: usize) -> Run
+    ensures { λ r. ⌜ r ≡ runTo place at ⌝ }
 {
-    match kind_of(g0) {
-        Kind::Of94 => match kind_of(g1) {
-            Kind::Of94 => false,
-            Kind::Of96 => true,
-        },
-        Kind::Of96 => false,
+    Run {
+        place: place,
+        at: at,
     }
 }
 
-fn gap_in_seven(state: State) -> bool
-    ensures { λ r. ⌜ r ≡ gapInSeven (state .gl) (state .gr) (kindOf (state .g0)) (kindOf (state .g1)) ⌝ }
+// Whether SPACE in GL takes SI, and the letter of GR after it SO.
+fn gap_in_seven(state: &[u8; CELLS]) -> bool
+    ensures { λ r. ⌜ r ≡ gapInSeven (now (state .entry)) ⌝ }
 {
-    let gl = state.gl;
-    let gr = state.gr;
-    let g0 = state.g0;
-    let g1 = state.g1;
-    match gl {
-        Element::G0 => match gr {
-            Element::G0 => false,
-            Element::G1 => space_shifts(g0, g1),
-            Element::G2 => false,
-            Element::G3 => false,
-        },
-        Element::G1 => false,
-        Element::G2 => false,
-        Element::G3 => false,
+    let shown = left(state);
+    if shown.0 != G0 {
+        return false;
     }
-}
-
-fn gap_in_eight(state: State) -> bool
-    ensures { λ r. ⌜ r ≡ gapInEight (state .gl) (kindOf (state .g0)) ⌝ }
-{
-    let gl = state.gl;
-    let g0 = state.g0;
-    match gl {
-        Element::G0 => false,
-        Element::G1 => match kind_of(g0) {
-            Kind::Of94 => true,
-            Kind::Of96 => false,
-        },
-        Element::G2 => false,
-        Element::G3 => false,
+    let other = right(state);
+    if other.0 != G1 {
+        return false;
     }
+    let first = size_in(state, ElementNumber(G0));
+    if first.0 != OF_94 {
+        return false;
+    }
+    let second = size_in(state, ElementNumber(G1));
+    second.0 == OF_96
 }
 
 // Whether a space between words can be written with the shifts around it, for words that begin with this letter.
-fn has_gaps(to: Form, state: State, byte: u8) -> bool
-    ensures { λ r. ⌜ r ≡ hasGaps to state byte ⌝ }
+fn has_gaps(to: Form, state: &[u8; CELLS], byte: u8) -> bool
+    ensures { λ r. ⌜ r ≡ hasGaps to (now (state .entry)) byte ⌝ }
 {
     match to {
         Form::Seven => {
@@ -262,41 +248,32 @@ fn has_gaps(to: Form, state: State, byte: u8) -> bool
                 gap_in_seven(state)
             }
         }
-        Form::Eight => gap_in_eight(state),
+        Form::Eight => lane::has_gaps(state),
     }
 }
 
-// SPACE before a letter of GR; in 7-bit form SI, SPACE and SO.
+// Whether SPACE stands at a place before a letter of GR.
+fn space_ahead(text: &[u8], place: usize) -> bool
+    requires { ⌜ place ≤ length (now text) ⌝ }
+    ensures { λ r. ⌜ r ≡ spaceAhead (now (text .entry)) place ⌝ }
+{
+    if text.len() - place < 2 {
+        return false;
+    }
+    if text[place] != SPACE {
+        return false;
+    }
+    between(BIT_8 + SPACE + 1, BIT_8 + DELETE - 1, text[place + 1])
+}
+
+// To 7-bit form SPACE before a letter of GR, to 8-bit form SI, SPACE and SO.
 fn gap_ahead(to: Form, text: &[u8], place: usize) -> bool
     requires { ⌜ place ≤ length (now text) ⌝ }
     ensures { λ r. ⌜ r ≡ gapAhead to (now (text .entry)) place ⌝ }
 {
     match to {
-        Form::Seven => {
-            if text.len() - place < 2 {
-                return false;
-            }
-            if text[place] != SPACE {
-                return false;
-            }
-            let next = text[place + 1];
-            if next <= BIT_8 + SPACE {
-                return false;
-            }
-            next < BIT_8 + DELETE
-        }
-        Form::Eight => {
-            if text.len() - place < 3 {
-                return false;
-            }
-            if text[place] != SI {
-                return false;
-            }
-            if text[place + 1] != SPACE {
-                return false;
-            }
-            text[place + 2] == SO
-        }
+        Form::Seven => space_ahead(text, place),
+        Form::Eight => lane::gap_ahead(text, place),
     }
 }
 
@@ -337,21 +314,22 @@ fn over_gap(to: Form, text: &[u8], place: usize, buffer: &mut [u8], at: usize) -
 // A run of the lane from a letter on, byte by byte at first, since most runs are words.
 pub(crate) fn copy_run(
     to: Form,
-    state: State,
+    state: &[u8; CELLS],
     text: &[u8],
     place: usize,
     buffer: &mut [u8],
     at: usize,
 ) -> Run
     requires { ⌜ (place < length (now text)) × (length (now text) ≤ longestText) × (at ≤ 3 * longestText) ⌝ }
-    requires { ⌜
-        (isLetter to state Single.Not (getD (now text) place 0) ≡ true) × (inOneByte to state (getD (now text) place 0) ≡ true)
-        ⌝ }
-    ensures { λ r. ⌜ (place < r .place) × (r .place ≤ length (now (text .entry))) ⌝ }
+    ensures { λ r. ⌜ r .place ≤ length (now (text .entry)) ⌝ }
     ensures { λ r. ⌜
-        ((lent : List ℕ) →
-        Passes to (now (text .entry)) lent state Single.Not at place (now (buffer .entry)) →
-        Passes to (now (text .entry)) lent state Single.Not (r .at) (r .place) (now (buffer .exit)))
+        ((m : Form) →
+        (shown : ℕ) →
+        (lent : List ℕ) →
+        Begins m to (now (state .entry)) shown (getD (now (text .entry)) place 0) →
+        Passes m to (now (text .entry)) lent (now (state .entry)) shown at place (now (buffer .entry)) →
+        (place < r .place) ×
+        Passes m to (now (text .entry)) lent (now (state .entry)) shown (r .at) (r .place) (now (buffer .exit)))
         ⌝ }
 {
     let byte = text[place];
@@ -359,93 +337,57 @@ pub(crate) fn copy_run(
     let lane = way.lane;
     let gaps = has_gaps(to, state, byte);
     let mut here = place;
-    let mut there = at;
+    let mut put = at;
     let mut start = place;
     while here < text.len() {
         if byte_ahead(lane, text, here) {
             if here - start == BLOCK {
-                let end = copy_blocks(way, text, here, buffer, there);
-                return Run {
-                    place: end,
-                    at: there + (end - here),
-                };
+                let end = copy_blocks(way, text, here, buffer, put);
+                return run_to(end, put + (end - here));
             }
-            put_byte(buffer, there, copied(way, text[here]));
+            put_byte(buffer, put, copied(way, text[here]));
             here += 1;
-            there += 1;
+            put += 1;
         } else {
             if !gaps {
-                return Run {
-                    place: here,
-                    at: there,
-                };
+                return run_to(here, put);
             }
             if !gap_ahead(to, text, here) {
-                return Run {
-                    place: here,
-                    at: there,
-                };
+                return run_to(here, put);
             }
-            let gap = over_gap(to, text, here, buffer, there);
+            let gap = over_gap(to, text, here, buffer, put);
             here = gap.place;
-            there = gap.at;
+            put = gap.at;
             start = here;
         }
     }
-    Run {
-        place: here,
-        at: there,
-    }
+    run_to(here, put)
 }
 
-fn same(one: Element, other: Element) -> bool
-    ensures { λ r. ⌜ r ≡ sameOfTwo one other ⌝ }
+// Whether a letter of an element is written in one byte.
+fn in_one_byte(to: Form, shown: ElementNumber, element: ElementNumber, byte: u8) -> bool
+    ensures { λ r. ⌜ r ≡ inOneByte to (shown .0) (element .0) byte ⌝ }
 {
-    match one {
-        Element::G0 => match other {
-            Element::G0 => true,
-            Element::G1 => false,
-            Element::G2 => false,
-            Element::G3 => false,
-        },
-        Element::G1 => match other {
-            Element::G0 => false,
-            Element::G1 => true,
-            Element::G2 => false,
-            Element::G3 => false,
-        },
-        Element::G2 => false,
-        Element::G3 => false,
-    }
-}
-
-// Whether a letter is written in one byte.
-fn in_one_byte(to: Form, state: State, byte: u8) -> bool
-    ensures { λ r. ⌜ r ≡ inOneByte to state byte ⌝ }
-{
-    let gl = state.gl;
-    let shown = state.shown;
     match to {
-        Form::Seven => same(element_of(state, byte), shown),
-        Form::Eight => match gl {
-            Element::G0 => true,
-            Element::G1 => true,
-            Element::G2 => false,
-            Element::G3 => false,
-        },
+        Form::Seven => element.0 == shown.0,
+        Form::Eight => { if byte < BIT_8 { element.0 < G2 } else { false } }
     }
 }
 
-// Whether a run begins with the letter at a place: it is written in one byte, and no control or space follows.
-pub(crate) fn begins_run(to: Form, state: State, text: &[u8], place: usize) -> bool
+// Whether a run begins with the letter at a place, of an element: it is written in one byte, and no control or space follows.
+pub(crate) fn begins_run(
+    to: Form,
+    element: ElementNumber,
+    shown: ElementNumber,
+    text: &[u8],
+    place: usize,
+) -> bool
     requires { ⌜ place < length (now text) ⌝ }
-    ensures { λ r. ⌜ (r ≡ true → inOneByte to state (getD (now (text .entry)) place 0) ≡ true) ⌝ }
+    ensures { λ r. ⌜ (r ≡ true → inOneByte to (shown .0) (element .0) (getD (now (text .entry)) place 0) ≡ true) ⌝ }
 {
-    if text.len() - place < 2 {
-        return false;
+    if word_ahead(text, place) {
+        in_one_byte(to, shown, element, text[place])
+    } else {
+        false
     }
-    if text[place + 1] <= SPACE {
-        return false;
-    }
-    in_one_byte(to, state, text[place])
 }

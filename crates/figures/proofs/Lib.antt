@@ -1,8 +1,5 @@
 pub mod AddedCounts
-pub mod BlocksCount
-pub mod CountingByTurns
+pub mod CountingByItems
 pub mod CountingOverRefusals
-pub mod GapsCount
-pub mod LanesKeep
-pub mod LettersCounted
 pub mod RestToCount
+pub mod RunsCount

@@ -6,11 +6,12 @@ use mathlib.Core.Bool.{Bool, true, false}
 use mathlib.Core.List.{List, [], _∷_}
 use native.Mathlib.Omega.{arith}
 use native.Mathlib.Numerals.{add-one}
-use borrow.Author.Tests.{eqb-true, eqb-false, ne-eqb}
+use borrow.Author.Tests.{ne-eqb}
 use lib.Dec.{eqb}
-use lib.ListN.{length, drop, getD, set, replicate, length-set, drop-of-length-le}
-use lib.Seq.{drop-cons, getD-set-same, getD-set-other}
+use lib.ListN.{length, drop, getD, replicate, drop-of-length-le}
+use lib.Seq.{drop-cons}
 use Rattle.paper.specs.Choice.{_gives_or_}
+use Rattle.paper.specs.Refusals.{longestText}
 use Rattle.paper.specs.Results.{wordOf, charWord, spaceWord, deleteWord, controlWord, designateWord, shiftWord}
 use Rattle.paper.specs.Results.{otherWord, refusedWord, instepWord}
 use Rattle.paper.specs.Starting.{started}
@@ -25,74 +26,35 @@ use Rattle.paper.specs.declared.Answer.{Answer}
 use Rattle.paper.specs.declared.Answered.{Answered}
 use Rattle.paper.specs.declared.FirstRefusal.{FirstRefusal}
 use Rattle.paper.specs.declared.FirstRefusal.the-variants.{Never, First}
-use Rattle.figures.specs.Counting.{HasFigure, Counting, figuresFrom}
+use Rattle.paper.proofs.LawfulAnswers.{form-on}
+use Rattle.items.proofs.ItemsByBytes.{NoRefusal}
+use Rattle.figures.specs.Counting.{added, Fits, HasFigure, Counting, figuresFrom}
+use Rattle.figures.proofs.AddedCounts.{part, entry, fits-more}
 
--- there are eleven words
+-- ---- an answer
+
+-- a refusal, or one that is passed over
+data RefusalOrNot (a : Answer) : Type 0 where
+  refusal : (n : Refusal) → a ≡ Answer.Refused n → RefusalOrNot a
+  other : ((later : FirstRefusal) (at : ℕ) → refusalOr later at a ≡ later) → RefusalOrNot a
+
+-- and there are eleven words
+about : (a : Answer) → (wordOf a < 11) × RefusalOrNot a
+about Answer.NothingYet = (omega arith, other (λ l at. refl))
+about (Answer.Char e x p) = (omega arith, other (λ l at. refl))
+about Answer.Space = (omega arith, other (λ l at. refl))
+about Answer.Delete = (omega arith, other (λ l at. refl))
+about (Answer.Control w f n) = (omega arith, other (λ l at. refl))
+about (Answer.DesignateControls w f) = (omega arith, other (λ l at. refl))
+about (Answer.Designate e x) = (omega arith, other (λ l at. refl))
+about (Answer.Shift h) = (omega arith, other (λ l at. refl))
+about (Answer.Other s f) = (omega arith, other (λ l at. refl))
+about (Answer.Refused n) = (omega arith, refusal n refl)
+about Answer.Skipped = (omega arith, other (λ l at. refl))
+about (Answer.InStep n) = (omega arith, other (λ l at. refl))
+
 pub word-below : (a : Answer) → wordOf a < 11
-word-below Answer.NothingYet = omega arith
-word-below (Answer.Char e x p) = omega arith
-word-below Answer.Space = omega arith
-word-below Answer.Delete = omega arith
-word-below (Answer.Control w f n) = omega arith
-word-below (Answer.DesignateControls w f) = omega arith
-word-below (Answer.Designate e x) = omega arith
-word-below (Answer.Shift h) = omega arith
-word-below (Answer.Other s f) = omega arith
-word-below (Answer.Refused n) = omega arith
-word-below Answer.Skipped = omega arith
-word-below (Answer.InStep n) = omega arith
-
-zeros : (n w : ℕ) → _≡_ {A = ℕ} (getD (replicate n 0) w 0) 0
-zeros zero w = refl
-zeros (suc n) zero = refl
-zeros (suc n) (suc w) = zeros n w
-
-pub counting-starts : (form : Form) (text : List ℕ) → Counting form text (started form) (replicate 11 0) Never 0
-counting-starts form text = record {
-  within = omega arith;
-  words = refl;
-  bounded = λ w. rw (zeros 11 w) (omega arith);
-  counted = λ w figure. rw (zeros 11 w) (omega arith);
-  refused = refl;
-  ends = refl;
-}
-
--- counts that have one answer more
-abbrev OneMore : ℕ → List ℕ → List ℕ → Type 0
-OneMore k counts after =
-    (w : ℕ) → HasFigure w → (n : ℕ) → getD after w 0 + n ≡ getD counts w 0 + (eqb k w gives suc n or n)
-
-one-more : (counts : List ℕ) (k : ℕ) → k < length counts → OneMore k counts (set counts k (getD counts k 0 + 1))
-one-more counts k h w figure n = by (eqb k w) refl
-  where
-    by : (t : Bool) → eqb k w ≡ t → getD (set counts k (getD counts k 0 + 1)) w 0 + n ≡ getD counts w 0 + (t gives suc n or n)
-    by true e =
-        let same : k ≡ w = eqb-true k w e in
-        let now : getD (set counts k (getD counts k 0 + 1)) k 0 ≡ getD counts k 0 + 1 = getD-set-same counts k (getD counts k 0 + 1) 0 h in
-        subst (λ (j : ℕ). getD (set counts k (getD counts k 0 + 1)) j 0 + n ≡ getD counts j 0 + suc n) same (omega arith)
-    by false e =
-        let other : w ≡ k → ⊥ = λ q. eqb-false k w e (sym q) in
-        rw (getD-set-other counts k w (getD counts k 0 + 1) 0 other)
-
-most-more : (counts : List ℕ) (k most : ℕ) → k < length counts → ((w : ℕ) → getD counts w 0 ≤ most) →
-    (w : ℕ) → getD (set counts k (getD counts k 0 + 1)) w 0 ≤ suc most
-most-more counts k most h bound w = by (eqb k w) refl
-  where
-    by : (t : Bool) → eqb k w ≡ t → getD (set counts k (getD counts k 0 + 1)) w 0 ≤ suc most
-    by true e =
-        let now : getD (set counts k (getD counts k 0 + 1)) k 0 ≡ getD counts k 0 + 1 = getD-set-same counts k (getD counts k 0 + 1) 0 h in
-        let most-here = bound k in
-        subst (λ (j : ℕ). getD (set counts k (getD counts k 0 + 1)) j 0 ≤ suc most) (eqb-true k w e) (omega arith)
-    by false e =
-        let other : w ≡ k → ⊥ = λ q. eqb-false k w e (sym q) in
-        let most-here = bound w in
-        rw (getD-set-other counts k w (getD counts k 0 + 1) 0 other) (omega arith)
-
--- where the word has no figure the counts need not change
-none-more : (counts : List ℕ) (k : ℕ) → (HasFigure k → ⊥) → OneMore k counts counts
-none-more counts k no-figure w figure n =
-    ap (λ (t : Bool). getD counts w 0 + (t gives suc n or n))
-    (sym (ne-eqb k w (λ e. no-figure (subst HasFigure (sym e) figure))))
+word-below a = about a .0
 
 first-last : (first : FirstRefusal) → firstOf first Never ≡ first
 first-last Never = refl
@@ -100,38 +62,44 @@ first-last (First n at) = refl
 
 first-more : (first later : FirstRefusal) (at : ℕ) (a : Answer) →
     firstOf (firstOf first (refusalOr Never at a)) later ≡ firstOf first (refusalOr later at a)
-first-more Never later at Answer.NothingYet = refl
-first-more Never later at (Answer.Char e x p) = refl
-first-more Never later at Answer.Space = refl
-first-more Never later at Answer.Delete = refl
-first-more Never later at (Answer.Control w f n) = refl
-first-more Never later at (Answer.DesignateControls w f) = refl
-first-more Never later at (Answer.Designate e x) = refl
-first-more Never later at (Answer.Shift h) = refl
-first-more Never later at (Answer.Other s f) = refl
-first-more Never later at (Answer.Refused n) = refl
-first-more Never later at Answer.Skipped = refl
-first-more Never later at (Answer.InStep n) = refl
-first-more (First n k) later at a = refl
+first-more first later at a = by first (about a .1)
+  where
+    by : (first : FirstRefusal) → RefusalOrNot a → firstOf (firstOf first (refusalOr Never at a)) later ≡ firstOf first (refusalOr later at a)
+    by Never (refusal n e) = rw e
+    by Never (other keeps) = rw (keeps Never at, keeps later at)
+    by (First n k) x = refl
 
 -- an answer that is no refusal leaves the first one
-pub first-stays : (first : FirstRefusal) (at : ℕ) (a : Answer) → ((n : Refusal) → a ≡ Answer.Refused n → ⊥) →
-    firstOf first (refusalOr Never at a) ≡ first
-first-stays first at Answer.NothingYet other = first-last first
-first-stays first at (Answer.Char e x p) other = first-last first
-first-stays first at Answer.Space other = first-last first
-first-stays first at Answer.Delete other = first-last first
-first-stays first at (Answer.Control w f n) other = first-last first
-first-stays first at (Answer.DesignateControls w f) other = first-last first
-first-stays first at (Answer.Designate e x) other = first-last first
-first-stays first at (Answer.Shift h) other = first-last first
-first-stays first at (Answer.Other s f) other = first-last first
-first-stays first at (Answer.Refused n) other = absurd (other n refl)
-first-stays first at Answer.Skipped other = first-last first
-first-stays first at (Answer.InStep n) other = first-last first
+pub first-stays : (first : FirstRefusal) (at : ℕ) (a : Answer) → NoRefusal a → firstOf first (refusalOr Never at a) ≡ first
+first-stays first at a never = by (about a .1)
+  where
+    by : RefusalOrNot a → firstOf first (refusalOr Never at a) ≡ first
+    by (refusal n e) = absurd (never n e)
+    by (other keeps) = ap (firstOf first) (keeps Never at) ∙ first-last first
 
-module _ {form : Form} {text : List ℕ} {r : Reader} {counts : List ℕ} {first : FirstRefusal} {place : ℕ}
-    (c : Counting form text r counts first place) where
+-- ---- the start
+
+zeros : (n w : ℕ) → _≡_ {A = ℕ} (getD (replicate n 0) w 0) 0
+zeros zero w = refl
+zeros (suc n) zero = refl
+zeros (suc n) (suc w) = zeros n w
+
+pub counting-starts : (form : Form) (text : List ℕ) → length text ≤ longestText →
+    Counting form text (replicate 11 0) Never (started form) 0
+counting-starts form text short = record {
+  fits = record { short = short; within = omega arith; words = refl; bounded = λ w. rw (zeros 11 w) (omega arith) };
+  in-form = refl;
+  counted = λ w figure. rw (zeros 11 w) (omega arith);
+  refused = refl;
+  ends = refl;
+}
+
+one-and : (t : Bool) (n : ℕ) → (t gives 1 or 0) + n ≡ (t gives suc n or n)
+one-and true n = omega arith
+one-and false n = omega arith
+
+module _ {form : Form} {text counts : List ℕ} {first : FirstRefusal} {r : Reader} {place : ℕ}
+    (c : Counting form text counts first r place) where
   -- ---- a byte
 
   module _ (a : Answered) (inside : place < length text) (answers : answerTo r (getD text place 0) ≡ a) where
@@ -146,48 +114,51 @@ module _ {form : Form} {text : List ℕ} {r : Reader} {counts : List ℕ} {first
         ap (readerAfter r) (drop-cons text place 0 inside) ∙
         ap (λ (x : Answered). readerAfter (x .reader) (drop (suc place) text)) answers
 
-    goes-on : (after : List ℕ) → length after ≡ 11 → ((w : ℕ) → getD after w 0 ≤ suc place) → OneMore (wordOf (a .answer)) counts after →
-        Counting form text (a .reader) after (firstOf first (refusalOr Never place (a .answer))) (place + 1)
-    goes-on after eleven bound one =
-        subst (λ (p : ℕ). Counting form text (a .reader) after (firstOf first (refusalOr Never place (a .answer))) p) (sym (add-one place))
+    goes-on : (after : List ℕ) → Fits text after (place + 1) →
+        ((w : ℕ) → HasFigure w → getD after w 0 ≡ getD counts w 0 + part (wordOf (a .answer)) 1 w) →
+        Counting form text after (firstOf first (refusalOr Never place (a .answer))) (a .reader) (place + 1)
+    unfolding part
+    goes-on after fits one =
+        let f = rw (add-one place) at fits in
+        rw (add-one place)
         (record {
-          within = inside;
-          words = eleven;
-          bounded = bound;
+          fits = f;
+          in-form = ap (λ (x : Answered). x .reader .form) (sym answers) ∙ form-on r (getD text place 0) ∙ c .in-form;
           counted = λ w figure.
-              one w figure (howMany w rest) ∙
-              ap (λ (x : List Placed). getD counts w 0 + howMany w x) (sym next-answers) ∙ c .counted w figure;
+              let e = one w figure in
+              let d = one-and (eqb (wordOf (a .answer)) w) (howMany w rest) in
+              let g = c .counted w figure in
+              let h = ap (howMany w) next-answers in
+              omega arith;
           refused =
               first-more first (firstRefusal rest) place (a .answer) ∙
               ap (λ (x : List Placed). firstOf first (firstRefusal x)) (sym next-answers) ∙ c .refused;
           ends = ap endOfText (sym next-reader) ∙ c .ends;
         })
 
-    pub counts-more : Counting form text (a .reader) (set counts (wordOf (a .answer)) (getD counts (wordOf (a .answer)) 0 + 1))
-        (firstOf first (refusalOr Never place (a .answer))) (place + 1)
+    pub counts-more : Counting form text (added counts (wordOf (a .answer)) 1) (firstOf first (refusalOr Never place (a .answer)))
+        (a .reader) (place + 1)
     counts-more =
         let k : ℕ = wordOf (a .answer) in
-        let below : k < length counts = let e = c .words in let b = word-below (a .answer) in omega arith in
-        goes-on (set counts k (getD counts k 0 + 1)) (length-set counts k (getD counts k 0 + 1) ∙ c .words)
-        (most-more counts k place below (c .bounded)) (one-more counts k below)
+        let f = c .fits in
+        let below = word-below (a .answer) in
+        goes-on (added counts k 1) (fits-more f k 1 below refl (omega arith)) (λ w figure. entry counts k 1 w (omega (arith, f .words)))
 
     pub counts-no-more : (HasFigure (wordOf (a .answer)) → ⊥) →
-        Counting form text (a .reader) counts (firstOf first (refusalOr Never place (a .answer))) (place + 1)
+        Counting form text counts (firstOf first (refusalOr Never place (a .answer))) (a .reader) (place + 1)
+    unfolding part
     counts-no-more no-figure =
-        goes-on counts (c .words) (λ w. let h = c .bounded w in omega arith) (none-more counts (wordOf (a .answer)) no-figure)
+        let f = c .fits in
+        goes-on counts
+        (record { short = f .short; within = omega arith; words = f .words; bounded = λ w. omega (arith, f .bounded w) })
+        (λ w figure.
+        rw (ne-eqb (wordOf (a .answer)) w (λ e. no-figure (subst HasFigure (sym e) figure))) (omega arith))
 
   -- ---- at the end of the text
 
   module _ (past : length text ≤ place) where
     nothing-left : drop place text ≡ []
     nothing-left = drop-of-length-le text past
-
-    all-counted : (w : ℕ) → HasFigure w → getD counts w 0 ≡ howMany w (answersOf form text)
-    all-counted w figure =
-        let e : getD counts w 0 + 0 ≡ howMany w (answersOf form text) =
-        subst (λ (x : List ℕ). getD counts w 0 + howMany w (answersFrom place r x) ≡ howMany w (answersOf form text))
-        nothing-left (c .counted w figure) in
-        omega arith
 
     first-found : first ≡ firstRefusal (answersOf form text)
     first-found =
@@ -198,7 +169,10 @@ module _ {form : Form} {text : List ℕ} {r : Reader} {counts : List ℕ} {first
     end-reached = ap (λ (x : List ℕ). endOfText (readerAfter r x)) (sym nothing-left) ∙ c .ends
 
     figure-of : (w : ℕ) → (w ≡ 0 → ⊥) → (w ≡ 9 → ⊥) → howMany w (answersOf form text) ≡ getD counts w 0
-    figure-of w some no-skip = sym (all-counted w (record { not-nothing-yet = some; not-skipped = no-skip }))
+    figure-of w some no-skip =
+        let e = c .counted w (record { not-nothing-yet = some; not-skipped = no-skip }) in
+        let d = ap (λ (x : List ℕ). howMany w (answersFrom place r x)) nothing-left in
+        omega arith
 
     pub all-figures : (end : EndWord) → endOfText r ≡ end → figuresOf form text ≡ figuresFrom counts first end
     all-figures end is = λ i. record {

@@ -1,52 +1,67 @@
 -- No rule of the paper: for the contracts of private functions.
 -- While a text is read: what is counted so far and what the rest of the text has make what the whole text has, for every word that has
 -- a figure; likewise the first refusal and the end. No count passes the number of the bytes so far.
-use Prim.Native.Nat.{ℕ, _+_, _≤_}
+use Prim.Native.Nat.{ℕ, zero, suc, _+_, _≤_}
 use mathlib.Core.Path.{_≡_}
 use mathlib.Core.List.{List}
-use lib.ListN.{length, drop, getD}
+use lib.Dec.{leb, eqb}
+use lib.ListN.{length, drop, getD, set}
+use Rattle.paper.specs.Choice.{_gives_or_}
+use Rattle.paper.specs.Refusals.{longestText}
 use Rattle.paper.specs.Results.{nothingYetWord, charWord, spaceWord, deleteWord, controlWord, designateWord, shiftWord, otherWord}
 use Rattle.paper.specs.Results.{refusedWord, skippedWord, instepWord}
 use Rattle.paper.specs.Answering.{endOfText}
 use Rattle.paper.specs.Texts.{readerAfter, answersFrom, answersOf, endWord}
 use Rattle.paper.specs.Surveying.{howMany, firstRefusal, firstOf}
 use Rattle.paper.specs.declared.Form.{Form}
-use Rattle.paper.specs.declared.Element.{Element}
 use Rattle.paper.specs.declared.Reader.{Reader}
 use Rattle.paper.specs.declared.EndWord.{EndWord}
 use Rattle.paper.specs.declared.Figures.{Figures}
 use Rattle.paper.specs.declared.FirstRefusal.{FirstRefusal}
-use Rattle.items.specs.States.{stateOf, standingOf}
-use Rattle.items.specs.declared.state.Single.{Single}
-use Rattle.items.specs.declared.state.State.{State}
+use Rattle.items.specs.States.{Stands}
+
+-- so many more of a word
+abbrev pub added : List ℕ → ℕ → ℕ → List ℕ
+added counts w n = set counts w (getD counts w 0 + n)
+
+-- of so many bytes from a place on, those that are at most a bound
+abbrev pub upTo : ℕ → List ℕ → ℕ → ℕ → ℕ
+upTo bound text place zero = 0
+upTo bound text place (suc n) = upTo bound text place n + (leb (getD text (place + n) 0) bound gives 1 or 0)
+
+-- there is a count for each word, and room for what is left of the text
+pub record Fits (text counts : List ℕ) (place : ℕ) : Type 0 where
+  pub short : length text ≤ longestText
+  pub within : place ≤ length text
+  pub words : length counts ≡ 11
+  pub bounded : (w : ℕ) → getD counts w 0 ≤ place
 
 -- the words that have a figure are all but two
 pub record HasFigure (w : ℕ) : Type 0 where
   pub not-nothing-yet : w ≡ nothingYetWord → ⊥
   pub not-skipped : w ≡ skippedWord → ⊥
 
-pub record Counting (form : Form) (text : List ℕ) (r : Reader) (counts : List ℕ) (first : FirstRefusal) (place : ℕ) : Type 0 where
-  pub within : place ≤ length text
-  pub words : length counts ≡ 11
-  pub bounded : (w : ℕ) → getD counts w 0 ≤ place
+pub record Counting (form : Form) (text counts : List ℕ) (first : FirstRefusal) (r : Reader) (place : ℕ) : Type 0 where
+  pub fits : Fits text counts place
+  pub in-form : r .form ≡ form
   pub counted : (w : ℕ) → HasFigure w →
       getD counts w 0 + howMany w (answersFrom place r (drop place text)) ≡ howMany w (answersOf form text)
   pub refused : firstOf first (firstRefusal (answersFrom place r (drop place text))) ≡ firstRefusal (answersOf form text)
   pub ends : endOfText (readerAfter r (drop place text)) ≡ endWord form text
 
--- the same of what is known between two items: some reader has this state and stands so
-pub record Counts (form : Form) (text : List ℕ) (s : State) (t : Single) (counts : List ℕ) (first : FirstRefusal) (place : ℕ) : Type 0 where
+-- the same of what is known between two items
+pub record Counts (form : Form) (text cells counts : List ℕ) (first : FirstRefusal) (place : ℕ) : Type 0 where
   pub reader : Reader
-  pub shown : Element
-  pub has : s ≡ stateOf reader shown
-  pub stands : reader .standing ≡ standingOf t
-  pub in-form : reader .form ≡ form
-  pub counting : Counting form text reader counts first place
+  pub stands : Stands cells reader
+  pub counting : Counting form text counts first reader place
 
-abbrev pub endAfter : Single → EndWord
-endAfter Single.Not = EndWord.Whole
-endAfter Single.OfG2 = EndWord.Inside
-endAfter Single.OfG3 = EndWord.Inside
+-- what is counted goes on to another place, where the state is the same
+abbrev pub GoesOn : Form → List ℕ → List ℕ → List ℕ → ℕ → List ℕ → ℕ → Type 0
+GoesOn form text cells counts place after there =
+    (first : FirstRefusal) → Counts form text cells counts first place → Counts form text cells after first there
+
+abbrev pub endAfter : ℕ → EndWord
+endAfter t = eqb t 0 gives EndWord.Whole or EndWord.Inside
 
 abbrev pub figuresFrom : List ℕ → FirstRefusal → EndWord → Figures
 figuresFrom counts first end = record {

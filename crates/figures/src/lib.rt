@@ -2,22 +2,24 @@
 // a time.
 mod run;
 
-use items::item::turn_at;
+use escapes::effect::CHAR_WORD;
+use escapes::effect::CONTROL_WORD;
+use escapes::effect::DELETE_WORD;
+use escapes::effect::DESIGNATE_WORD;
+use escapes::effect::ElementNumber;
+use escapes::effect::INSTEP_WORD;
+use escapes::effect::OTHER_WORD;
+use escapes::effect::REFUSED_WORD;
+use escapes::effect::SHIFT_WORD;
+use escapes::effect::SPACE_WORD;
+use escapes::effect::WORDS;
+use items::item::read_item;
 use items::letter::is_letter;
-use items::other_than;
-use items::state::Single;
+use items::state::NONE;
+use items::state::change;
+use items::state::single;
 use items::state::starting;
-use items::turn::Turn;
-use items::word::CHAR_WORD;
-use items::word::CONTROL_WORD;
-use items::word::DELETE_WORD;
-use items::word::DESIGNATE_WORD;
-use items::word::INSTEP_WORD;
-use items::word::OTHER_WORD;
-use items::word::REFUSED_WORD;
-use items::word::SHIFT_WORD;
-use items::word::SPACE_WORD;
-use items::word::WORDS;
+use lane::word_ahead;
 use paper::EndWord;
 use paper::Figures;
 use paper::FirstRefusal;
@@ -25,7 +27,8 @@ use paper::Form;
 use paper::Refusal;
 use paper::Surveyed;
 use refusals::LONGEST_TEXT;
-use run::begins_run;
+use refusals::refusal_of;
+use run::add;
 use run::count_run;
 use search::Opening;
 use search::opening_after;
@@ -60,13 +63,13 @@ fn first_with(first: FirstRefusal, refusal: Refusal, place: usize) -> FirstRefus
 }
 
 // The word at the end of a text that was read to its end: after a single shift it ends inside.
-fn end_after(single: Single) -> EndWord
-    ensures { λ r. ⌜ r ≡ endAfter single ⌝ }
+fn end_after(taken: ElementNumber) -> EndWord
+    ensures { λ r. ⌜ r ≡ endAfter (taken .0) ⌝ }
 {
-    match single {
-        Single::Not => EndWord::Whole,
-        Single::OfG2 => EndWord::Inside,
-        Single::OfG3 => EndWord::Inside,
+    if taken.0 == NONE {
+        EndWord::Whole
+    } else {
+        EndWord::Inside
     }
 }
 
@@ -75,15 +78,15 @@ fn figures_of(counts: &[usize], first: FirstRefusal, end: EndWord) -> Figures
     ensures { λ r. ⌜ r ≡ figuresFrom (now (counts .entry)) first end ⌝ }
 {
     Figures {
-        characters: counts[CHAR_WORD],
-        spaces: counts[SPACE_WORD],
-        deletes: counts[DELETE_WORD],
-        controls: counts[CONTROL_WORD],
-        designations: counts[DESIGNATE_WORD],
-        shifts: counts[SHIFT_WORD],
-        others: counts[OTHER_WORD],
-        refusals: counts[REFUSED_WORD],
-        insteps: counts[INSTEP_WORD],
+        characters: counts[CHAR_WORD as usize],
+        spaces: counts[SPACE_WORD as usize],
+        deletes: counts[DELETE_WORD as usize],
+        controls: counts[CONTROL_WORD as usize],
+        designations: counts[DESIGNATE_WORD as usize],
+        shifts: counts[SHIFT_WORD as usize],
+        others: counts[OTHER_WORD as usize],
+        refusals: counts[REFUSED_WORD as usize],
+        insteps: counts[INSTEP_WORD as usize],
         first: first,
         end: end,
     }
@@ -94,47 +97,42 @@ fn count(form: Form, text: &[u8]) -> Figures
     requires { ⌜ length (now text) ≤ longestText ⌝ }
     ensures { λ r. ⌜ r ≡ figuresOf form (now (text .entry)) ⌝ }
 {
-    let to = other_than(form);
     let mut state = starting();
-    let mut single = Single::Not;
     let mut counts = [0usize; WORDS];
     let mut first = FirstRefusal::Never;
     let mut place: usize = 0;
     while place < text.len() {
-        let byte = text[place];
-        if is_letter(to, state, single, byte) {
-            if begins_run(text, place) {
-                place = count_run(to, state, text, place, &mut counts);
+        if is_letter(form, &state, text[place]) {
+            if word_ahead(text, place) {
+                place = count_run(form, &state, text, place, &mut counts);
             } else {
-                counts[CHAR_WORD] += 1;
+                add(&mut counts, CHAR_WORD, 1);
                 place += 1;
             }
         } else {
-            match turn_at(to, state, single, text, place) {
-                Turn::Writes(next, shifted, word, _, there) => {
-                    counts[word] += 1;
-                    state = next;
-                    single = shifted;
-                    place = there;
-                }
-                Turn::Stops(refusal, there) => {
-                    if there >= text.len() {
-                        return figures_of(&counts, first, EndWord::Inside);
+            let item = read_item(form, &state, text, place);
+            let effect = item.effect;
+            let word = effect.word;
+            let there = item.place;
+            if word.0 != REFUSED_WORD {
+                add(&mut counts, word.0, 1);
+                change(&mut state, effect);
+                place = there;
+            } else if there >= text.len() {
+                return figures_of(&counts, first, EndWord::Inside);
+            } else {
+                add(&mut counts, REFUSED_WORD, 1);
+                first = first_with(first, refusal_of(effect.value), there);
+                match opening_after(form, text, there) {
+                    Opening::Ends(after) => {
+                        add(&mut counts, INSTEP_WORD, 1);
+                        state = starting();
+                        place = after;
                     }
-                    counts[REFUSED_WORD] += 1;
-                    first = first_with(first, refusal, there);
-                    match opening_after(form, text, there) {
-                        Opening::Ends(after) => {
-                            counts[INSTEP_WORD] += 1;
-                            state = starting();
-                            single = Single::Not;
-                            place = after;
-                        }
-                        Opening::Missing => return figures_of(&counts, first, EndWord::Lost),
-                    }
+                    Opening::Missing => return figures_of(&counts, first, EndWord::Lost),
                 }
             }
         }
     }
-    figures_of(&counts, first, end_after(single))
+    figures_of(&counts, first, end_after(single(&state)))
 }

@@ -1,122 +1,46 @@
 // The lane of the survey: runs of bytes that are each a character, SPACE or a control and leave the state as it is, counted sixteen at
-// a time; and between words in 7-bit form, SI, SPACE and SO.
-use charsets::DELETE;
+// a time; and between words SI, SPACE and SO.
 use charsets::SPACE;
-use codetable::BIT_8;
-use codetable::SI;
-use codetable::SO;
-use items::state::Size;
-use items::state::State;
-use items::state::kind_of;
+use charsets::is_of_94;
+use charsets::kind_of;
+use escapes::effect::CHAR_WORD;
+use escapes::effect::CONTROL_WORD;
+use escapes::effect::SHIFT_WORD;
+use escapes::effect::SPACE_WORD;
+use items::state::CELLS;
+use items::state::left;
 use items::state::size_in;
-use items::word::CHAR_WORD;
-use items::word::CONTROL_WORD;
-use items::word::SHIFT_WORD;
-use items::word::SPACE_WORD;
 use lane::BLOCK;
-use lane::FIRST_OF_NONE;
-use lane::LAST_OF_NONE;
 use lane::Lane;
 use lane::block_ahead;
 use lane::byte_ahead;
-use paper::Element;
+use lane::gap_ahead;
+use lane::has_gaps;
+use lane::lane_of;
 use paper::Form;
-use paper::Kind;
 ghost use Prim.Native.Nat.{ℕ, _+_, _*_, _≤_, _<_};
 ghost use mathlib.Core.Path.{_≡_};
 ghost use mathlib.Core.Bool.{true};
+ghost use mathlib.Core.List.{List};
 ghost use lib.ListN.{length, getD};
 ghost use Rattle.paper.specs.Choice.{_gives_or_};
 ghost use Rattle.paper.specs.Refusals.{longestText};
 ghost use Rattle.paper.specs.declared.Form.{Form};
 ghost use Rattle.paper.specs.declared.FirstRefusal.{FirstRefusal};
-ghost use Rattle.items.specs.OtherForm.{otherThan};
+ghost use Rattle.items.specs.States.{singleIn};
 ghost use Rattle.items.specs.Letters.{isLetter};
-ghost use Rattle.items.specs.declared.state.State.{State};
-ghost use Rattle.items.specs.declared.state.Single.{Single};
-ghost use Rattle.figures.specs.Counting.{Counts};
-ghost use Rattle.figures.specs.Runs.{lastPlain, laneWith, laneOf, hasSpace, wordIn, Keeps, controlsIn, spacesIn, gapAhead, hasGaps};
-
-// The last byte of GL that is a position of a set of one byte, or SPACE; where there are several bytes to a character the
-// last control.
-fn last_plain(size: Size) -> u8
-    ensures { λ r. ⌜ r ≡ lastPlain size ⌝ }
-{
-    match size {
-        Size::Of94 => DELETE - 1,
-        Size::Of96 => DELETE,
-        Size::TwoOf94 => SPACE - 1,
-        Size::TwoOf96 => SPACE - 1,
-        Size::ThreeOf94 => SPACE - 1,
-        Size::ThreeOf96 => SPACE - 1,
-    }
-}
-
-// Beside the plain bytes the positions of a set of one byte in GR.
-fn lane_with(plain: u8, right: Size) -> Lane
-    ensures { λ r. ⌜ r ≡ laneWith plain right ⌝ }
-{
-    match right {
-        Size::Of94 => Lane {
-            plain: plain,
-            first: BIT_8 + SPACE + 1,
-            last: BIT_8 + DELETE - 1,
-        },
-        Size::Of96 => Lane {
-            plain: plain,
-            first: BIT_8 + SPACE,
-            last: BIT_8 + DELETE,
-        },
-        Size::TwoOf94 => Lane {
-            plain: plain,
-            first: FIRST_OF_NONE,
-            last: LAST_OF_NONE,
-        },
-        Size::TwoOf96 => Lane {
-            plain: plain,
-            first: FIRST_OF_NONE,
-            last: LAST_OF_NONE,
-        },
-        Size::ThreeOf94 => Lane {
-            plain: plain,
-            first: FIRST_OF_NONE,
-            last: LAST_OF_NONE,
-        },
-        Size::ThreeOf96 => Lane {
-            plain: plain,
-            first: FIRST_OF_NONE,
-            last: LAST_OF_NONE,
-        },
-    }
-}
-
-// What passes: plain bytes by the set in GL, and in 8-bit form bytes of GR.
-fn lane_of(to: Form, left: Size, right: Size) -> Lane
-    ensures { λ r. ⌜ r ≡ laneOf to left right ⌝ }
-{
-    let plain = last_plain(left);
-    match to {
-        Form::Seven => lane_with(plain, right),
-        Form::Eight => Lane {
-            plain: plain,
-            first: FIRST_OF_NONE,
-            last: LAST_OF_NONE,
-        },
-    }
-}
+ghost use Rattle.lane.specs.Lanes.{laneOf, hasSpace, wordIn};
+ghost use Rattle.figures.specs.Counting.{added, upTo, Fits, Counts, GoesOn};
 
 // Whether 2/0 is SPACE.
-fn has_space(left: Size) -> bool
-    ensures { λ r. ⌜ r ≡ hasSpace left ⌝ }
+fn has_space(state: &[u8; CELLS]) -> bool
+    ensures { λ r. ⌜ r ≡ hasSpace (now (state .entry)) ⌝ }
 {
-    match kind_of(left) {
-        Kind::Of94 => true,
-        Kind::Of96 => false,
-    }
+    is_of_94(kind_of(size_in(state, left(state))))
 }
 
 // The word of a byte that passes.
-fn word_of(space: bool, byte: u8) -> usize
+fn word_of(space: bool, byte: u8) -> u8
     ensures { λ r. ⌜ r ≡ wordIn space byte ⌝ }
 {
     if SPACE < byte {
@@ -134,139 +58,71 @@ fn one_if(is: bool) -> u8
     if is { 1 } else { 0 }
 }
 
-// How many of the sixteen bytes from a place on are controls.
-fn controls_in(text: &[u8], place: usize) -> u8
+// How many of the sixteen bytes from a place on are at most a bound.
+fn up_to(bound: u8, text: &[u8], place: usize) -> u8
     requires { ⌜ place + 16 ≤ length (now text) ⌝ }
-    ensures { λ r. ⌜ r ≡ controlsIn (now (text .entry)) place 16 ⌝ }
+    ensures { λ r. ⌜ r ≡ upTo bound (now (text .entry)) place 16 ⌝ }
 {
     let mut count: u8 = 0;
     let mut next: usize = 0;
     while next < BLOCK {
-        count += one_if(text[place + next] < SPACE);
+        count += one_if(text[place + next] <= bound);
         next += 1;
     }
     count
 }
 
-// And how many are 2/0.
-fn spaces_in(text: &[u8], place: usize) -> u8
-    requires { ⌜ place + 16 ≤ length (now text) ⌝ }
-    ensures { λ r. ⌜ r ≡ spacesIn (now (text .entry)) place 16 ⌝ }
+// So many more of a word.
+pub(crate) fn add(counts: &mut [usize], word: u8, more: usize)
+    requires { ⌜ (word < length (now counts)) × (getD (now counts) word 0 + more ≤ 2 * longestText) ⌝ }
+    ensures { λ _. ⌜ now (counts .exit) ≡ added (now (counts .entry)) word more ⌝ }
 {
-    let mut count: u8 = 0;
-    let mut next: usize = 0;
-    while next < BLOCK {
-        count += one_if(text[place + next] == SPACE);
-        next += 1;
-    }
-    count
+    counts[word as usize] += more;
 }
 
-// Blocks of the lane from a place on: the place after them.
+// Blocks of the lane from a place on, whose low bytes are controls and 2/0: the place after them.
 fn count_blocks(lane: Lane, space: bool, text: &[u8], place: usize, counts: &mut [usize]) -> usize
-    requires { ⌜ (place ≤ length (now text)) × (length (now text) ≤ longestText) × (length (now counts) ≡ 11) ⌝ }
-    requires { ⌜ ((word : ℕ) → getD (now counts) word 0 ≤ 2 * longestText) ⌝ }
-    ensures { λ r. ⌜ (place ≤ r) × (r ≤ length (now (text .entry))) ⌝ }
+    requires { ⌜ Fits (now text) (now counts) place ⌝ }
+    ensures { λ r. ⌜ place ≤ r ⌝ }
     ensures { λ r. ⌜
         ((form : Form) →
-        (to : Form) →
-        (state : State) →
-        (first : FirstRefusal) →
-        form ≡ otherThan to →
-        Keeps to state (now (text .entry)) lane space →
-        Counts form (now (text .entry)) state Single.Not (now (counts .entry)) first place →
-        Counts form (now (text .entry)) state Single.Not (now (counts .exit)) first r)
+        (cells : List ℕ) →
+        singleIn cells ≡ 0 →
+        lane ≡ laneOf form cells →
+        space ≡ hasSpace cells →
+        GoesOn form (now (text .entry)) cells (now (counts .entry)) place (now (counts .exit)) r)
         ⌝ }
 {
     let mut here = place;
     let mut controls: usize = 0;
-    let mut spaces: usize = 0;
+    let mut low: usize = 0;
     while block_ahead(lane, text, here) {
-        controls += controls_in(text, here) as usize;
-        spaces += spaces_in(text, here) as usize;
+        controls += up_to(SPACE - 1, text, here) as usize;
+        low += up_to(SPACE, text, here) as usize;
         here += BLOCK;
     }
-    let others = here - place - controls - spaces;
-    counts[CONTROL_WORD] += controls;
-    if space {
-        counts[SPACE_WORD] += spaces;
-        counts[CHAR_WORD] += others;
-    } else {
-        counts[CHAR_WORD] += others + spaces;
-    }
+    add(counts, CONTROL_WORD, controls);
+    add(counts, word_of(space, SPACE), low - controls);
+    add(counts, CHAR_WORD, here - place - low);
     here
-}
-
-// In 7-bit form SI, SPACE and SO.
-fn gap_ahead(text: &[u8], place: usize) -> bool
-    requires { ⌜ place ≤ length (now text) ⌝ }
-    ensures { λ r. ⌜ r ≡ gapAhead (now (text .entry)) place ⌝ }
-{
-    if text.len() - place < 3 {
-        return false;
-    }
-    if text[place] != SI {
-        return false;
-    }
-    if text[place + 1] != SPACE {
-        return false;
-    }
-    text[place + 2] == SO
-}
-
-// Whether GL shows G1 again after SI, SPACE and SO, and 2/0 is SPACE between them.
-fn has_gaps(to: Form, state: State) -> bool
-    ensures { λ r. ⌜ r ≡ hasGaps to state ⌝ }
-{
-    let g0 = state.g0;
-    let gl = state.gl;
-    match to {
-        Form::Seven => false,
-        Form::Eight => match gl {
-            Element::G0 => false,
-            Element::G1 => has_space(g0),
-            Element::G2 => false,
-            Element::G3 => false,
-        },
-    }
-}
-
-// Whether a run begins with the letter at a place: no control or space follows. Either way of counting it is right.
-pub(crate) fn begins_run(text: &[u8], place: usize) -> bool
-    requires { ⌜ place < length (now text) ⌝ }
-{
-    if text.len() - place < 2 {
-        return false;
-    }
-    SPACE < text[place + 1]
 }
 
 // A run from a letter on, byte by byte at first, since many runs are words: the place after it.
 pub(crate) fn count_run(
-    to: Form,
-    state: State,
+    form: Form,
+    state: &[u8; CELLS],
     text: &[u8],
     place: usize,
     counts: &mut [usize],
 ) -> usize
-    requires { ⌜ (place < length (now text)) × (length (now text) ≤ longestText) × (length (now counts) ≡ 11) ⌝ }
-    requires { ⌜ ((word : ℕ) → getD (now counts) word 0 ≤ longestText) ⌝ }
-    requires { ⌜ isLetter to state Single.Not (getD (now text) place 0) ≡ true ⌝ }
-    ensures { λ r. ⌜ (place < r) × (r ≤ length (now (text .entry))) ⌝ }
-    ensures { λ r. ⌜
-        ((form : Form) →
-        (first : FirstRefusal) →
-        form ≡ otherThan to →
-        Counts form (now (text .entry)) state Single.Not (now (counts .entry)) first place →
-        Counts form (now (text .entry)) state Single.Not (now (counts .exit)) first r)
-        ⌝ }
+    requires { ⌜ (place < length (now text)) × (isLetter form (now state) (getD (now text) place 0) ≡ true) ⌝ }
+    requires { ⌜ ((first : FirstRefusal) × Counts form (now text) (now state) (now counts) first place) ⌝ }
+    ensures { λ r. ⌜ place < r ⌝ }
+    ensures { λ r. ⌜ GoesOn form (now (text .entry)) (now (state .entry)) (now (counts .entry)) place (now (counts .exit)) r ⌝ }
 {
-    let gl = state.gl;
-    let gr = state.gr;
-    let left = size_in(state, gl);
-    let lane = lane_of(to, left, size_in(state, gr));
-    let space = has_space(left);
-    let gaps = has_gaps(to, state);
+    let lane = lane_of(form, state);
+    let space = has_space(state);
+    let gaps = has_gaps(state);
     let mut here = place;
     let mut start = place;
     while here < text.len() {
@@ -275,7 +131,7 @@ pub(crate) fn count_run(
                 return count_blocks(lane, space, text, here, counts);
             }
             let word = word_of(space, text[here]);
-            counts[word] += 1;
+            add(counts, word, 1);
             here += 1;
         } else {
             if !gaps {
@@ -284,8 +140,9 @@ pub(crate) fn count_run(
             if !gap_ahead(text, here) {
                 return here;
             }
-            counts[SHIFT_WORD] += 2;
-            counts[SPACE_WORD] += 1;
+            add(counts, SHIFT_WORD, 1);
+            add(counts, SPACE_WORD, 1);
+            add(counts, SHIFT_WORD, 1);
             here += 3;
             start = here;
         }

@@ -12,8 +12,7 @@ use Rattle.paper.specs.declared.Form.{Form}
 use Rattle.paper.specs.declared.Refusal.{Refusal}
 use Rattle.paper.specs.declared.SequenceByte.{SequenceByte}
 use Rattle.paper.proofs.Choices.{in-bounds, above-bounds}
-use Rattle.items.specs.Items.{insideAt, notOfSequence}
-use Rattle.items.specs.Turns.{Did, stops}
+use Rattle.items.specs.Items.{Item, refused, insideAt, notOfSequence}
 
 pub below-bounds : (first last n : ℕ) → n < first → between first last n ≡ false
 unfolding between
@@ -35,24 +34,24 @@ high-byte : (b : ℕ) → 0x7E < b → sequenceByte b ≡ SequenceByte.Neither
 unfolding sequenceByte
 high-byte b low = rw (above-bounds 0x20 0x2F b (omega arith) (omega arith), above-bounds firstFinal lastFinal b (omega arith) low)
 
-pub past-the-end : (to : Form) (text : List ℕ) (place : ℕ) (on end : Did) →
-    length text ≤ place → stops Refusal.EndsInside place ≡ insideAt to text place on end
+pub past-the-end : (m : Form) (text : List ℕ) (place : ℕ) (on end : Item) →
+    length text ≤ place → refused Refusal.EndsInside place ≡ insideAt m text place on end
 unfolding insideAt
-past-the-end to text place on end h = rw (le-leb (length text) place h)
+past-the-end m text place on end h = rw (le-leb (length text) place h)
 
-module _ (to : Form) (text : List ℕ) (place : ℕ) (on end : Did) (inside : place < length text) where
-  pub below-intermediates : getD text place 0 < 0x20 → notOfSequence to (getD text place 0) place ≡ insideAt to text place on end
+module _ (m : Form) (text : List ℕ) (place : ℕ) (on end : Item) (inside : place < length text) where
+  pub below-intermediates : getD text place 0 < 0x20 → notOfSequence m (getD text place 0) place ≡ insideAt m text place on end
   unfolding insideAt
   below-intermediates h = rw (lt-leb (length text) place inside, low-byte (getD text place 0) h)
 
-  pub goes-on : 0x20 ≤ getD text place 0 → getD text place 0 ≤ 0x2F → on ≡ insideAt to text place on end
+  pub goes-on : 0x20 ≤ getD text place 0 → getD text place 0 ≤ 0x2F → on ≡ insideAt m text place on end
   unfolding insideAt
   goes-on low high = rw (lt-leb (length text) place inside, intermediate-byte (getD text place 0) low high)
 
-  pub ends-there : 0x2F < getD text place 0 → getD text place 0 ≤ 0x7E → end ≡ insideAt to text place on end
+  pub ends-there : 0x2F < getD text place 0 → getD text place 0 ≤ 0x7E → end ≡ insideAt m text place on end
   unfolding insideAt
   ends-there low high = rw (lt-leb (length text) place inside, final-byte (getD text place 0) low high)
 
-  pub above-finals : 0x7E < getD text place 0 → notOfSequence to (getD text place 0) place ≡ insideAt to text place on end
+  pub above-finals : 0x7E < getD text place 0 → notOfSequence m (getD text place 0) place ≡ insideAt m text place on end
   unfolding insideAt
   above-finals h = rw (lt-leb (length text) place inside, high-byte (getD text place 0) h)

@@ -1,274 +1,226 @@
 // A character of a text, read whole: from its first byte on, on the ground or after a single shift.
-use crate::other_than;
-use crate::state::Single;
-use crate::state::Size;
-use crate::state::State;
-use crate::state::count_of;
-use crate::state::kind_of;
+use crate::item::Item;
+use crate::item::character_of;
+use crate::item::refused;
+use crate::piece::one;
+use crate::piece::three;
+use crate::piece::two;
+use crate::state::CELLS;
+use crate::state::NONE;
+use crate::state::element_of;
+use crate::state::single;
 use crate::state::size_in;
-use crate::turn::Turn;
-use crate::word::DELETE_WORD;
-use crate::word::SPACE_WORD;
-use crate::written::character;
-use crate::written::space_or_delete;
-use charsets::DELETE;
-use charsets::SPACE;
+use charsets::Size;
+use charsets::byte_in;
+use charsets::count_of;
+use charsets::kind_of;
+use charsets::position_in;
 use codetable::BIT_8;
 use codetable::form_has;
+use escapes::effect::DELETE_WORD;
+use escapes::effect::ElementNumber;
+use escapes::effect::SPACE_WORD;
+use escapes::effect::plain;
 use paper::Count;
-use paper::Element;
 use paper::Form;
 use paper::GraphicArea;
 use paper::Kind;
-use paper::PositionBytes;
-use paper::Refusal;
 use paper::SetByte;
+use refusals::ANOTHER_AREA;
+use refusals::BYTE_OF_EIGHT_BITS;
+use refusals::ENDS_INSIDE;
+use refusals::NOT_OF_SET;
 ghost use Prim.Native.Nat.{_≤_, _<_};
 ghost use mathlib.Core.Path.{_≡_};
 ghost use lib.ListN.{length};
-ghost use Rattle.paper.specs.Characters.{positionIn, byteIn};
-ghost use Rattle.paper.specs.declared.GraphicArea.{GraphicArea};
-ghost use Rattle.items.specs.Turns.{did};
-ghost use Rattle.items.specs.Items.{ofSet, laterAt, ofTwo, thirdOfThree, ofThree, bytesAt, characterAt, graphicArea, elementIn};
-ghost use Rattle.items.specs.Items.{notOfSetAt, graphicAt};
+ghost use Rattle.items.specs.Pieces.{Small};
+ghost use Rattle.items.specs.States.{singleIn};
+ghost use Rattle.items.specs.Items.{itemOf, refusalOfByte, laterAt, ofTwo, thirdOfThree, ofThree, characterAt, graphicArea};
+ghost use Rattle.items.specs.Items.{elementIn, notOfSetAt, graphicAt};
 
-// A byte of a character as its position byte, or a refusal.
-enum Found {
-    Byte(u8),
-    Stops(Refusal),
-}
+// A later byte that is not refused.
+const TAKEN: u8 = 0;
 
-// A character's position bytes and the place after them, or a refusal with its place.
-enum Taken {
-    Bytes(PositionBytes, usize),
-    Stops(Refusal, usize),
-}
-
-// 2/1 to 7/14 are positions of every set and most of a text, so they are tried first.
-fn byte_in_gl(kind: Kind, byte: u8) -> SetByte
-    ensures { λ r. ⌜ r ≡ byteIn GraphicArea.GL kind byte ⌝ }
-{
-    if SPACE < byte {
-        if byte < DELETE {
-            return SetByte::OfSet;
-        }
-    }
-    charsets::set_byte(kind, byte)
-}
-
-fn byte_in_gr(kind: Kind, byte: u8) -> SetByte
-    ensures { λ r. ⌜ r ≡ byteIn GraphicArea.GR kind byte ⌝ }
-{
-    if BIT_8 <= byte {
-        byte_in_gl(kind, byte % BIT_8)
-    } else {
-        SetByte::Outside
-    }
-}
-
-// What a byte is to a set of a kind whose characters come from an area.
-fn byte_in(area: GraphicArea, kind: Kind, byte: u8) -> SetByte
-    ensures { λ r. ⌜ r ≡ byteIn area kind byte ⌝ }
-{
-    match area {
-        GraphicArea::GL => byte_in_gl(kind, byte),
-        GraphicArea::GR => byte_in_gr(kind, byte),
-    }
-}
-
-// The 7-bit position byte.
-fn position_in(area: GraphicArea, byte: u8) -> u8
-    ensures { λ r. ⌜ r ≡ positionIn area byte ⌝ }
-{
-    match area {
-        GraphicArea::GL => byte,
-        GraphicArea::GR => byte % BIT_8,
-    }
-}
-
-fn of_set(is: SetByte, position: u8) -> Found
-    ensures { λ r. ⌜ r ≡ ofSet is position ⌝ }
+// The number of the refusal of a byte inside a character, or that it is taken.
+fn refusal_of_byte(is: SetByte) -> u8
+    ensures { λ r. ⌜ r ≡ refusalOfByte is ⌝ }
 {
     match is {
-        SetByte::OfSpace => Found::Stops(Refusal::NotOfSet),
-        SetByte::OfDelete => Found::Stops(Refusal::NotOfSet),
-        SetByte::OfSet => Found::Byte(position),
-        SetByte::Outside => Found::Stops(Refusal::AnotherArea),
+        SetByte::OfSpace => NOT_OF_SET,
+        SetByte::OfDelete => NOT_OF_SET,
+        SetByte::OfSet => TAKEN,
+        SetByte::Outside => ANOTHER_AREA,
     }
 }
 
-// A byte inside a character.
-fn later_byte(to: Form, area: GraphicArea, kind: Kind, text: &[u8], place: usize) -> Found
-    ensures { λ r. ⌜ r ≡ laterAt to area kind (now (text .entry)) place ⌝ }
+// The same of the byte at a place.
+fn later_byte(form: Form, area: GraphicArea, kind: Kind, text: &[u8], place: usize) -> u8
+    ensures { λ r. ⌜ r ≡ laterAt form area kind (now (text .entry)) place ⌝ }
 {
     if place >= text.len() {
-        return Found::Stops(Refusal::EndsInside);
+        return ENDS_INSIDE;
     }
     let byte = text[place];
-    if form_has(other_than(to), byte) {
-        of_set(byte_in(area, kind, byte), position_in(area, byte))
+    if form_has(form, byte) {
+        refusal_of_byte(byte_in(area, kind, byte))
     } else {
-        Found::Stops(Refusal::ByteOfEightBits)
+        BYTE_OF_EIGHT_BITS
     }
 }
 
 // A character of two bytes from its second on.
-fn of_two(to: Form, area: GraphicArea, kind: Kind, first: u8, text: &[u8], place: usize) -> Taken
+fn of_two(
+    form: Form,
+    area: GraphicArea,
+    kind: Kind,
+    element: ElementNumber,
+    first: u8,
+    text: &[u8],
+    place: usize,
+) -> Item
     requires { ⌜ place ≤ length (now text) ⌝ }
-    ensures { λ r. ⌜ r ≡ ofTwo to area kind first (now (text .entry)) place ⌝ }
+    ensures { λ r. ⌜ (itemOf r ≡ ofTwo form area kind (element .0) first (now (text .entry)) place) × Small (r .piece) ⌝ }
 {
-    match later_byte(to, area, kind, text, place) {
-        Found::Byte(second) => Taken::Bytes(PositionBytes::Two(first, second), place + 1),
-        Found::Stops(refusal) => Taken::Stops(refusal, place),
+    let refusal = later_byte(form, area, kind, text, place);
+    if refusal != TAKEN {
+        return refused(refusal, place);
     }
+    character_of(
+        element,
+        two(first, position_in(area, text[place])),
+        place + 1,
+    )
 }
 
 // A character of three bytes from its third on.
 fn third_of_three(
-    to: Form,
+    form: Form,
     area: GraphicArea,
     kind: Kind,
+    element: ElementNumber,
     first: u8,
     second: u8,
     text: &[u8],
     place: usize,
-) -> Taken
+) -> Item
     requires { ⌜ place ≤ length (now text) ⌝ }
-    ensures { λ r. ⌜ r ≡ thirdOfThree to area kind first second (now (text .entry)) place ⌝ }
+    ensures { λ r. ⌜
+        (itemOf r ≡ thirdOfThree form area kind (element .0) first second (now (text .entry)) place) × Small (r .piece)
+        ⌝ }
 {
-    match later_byte(to, area, kind, text, place) {
-        Found::Byte(third) => Taken::Bytes(PositionBytes::Three(first, second, third), place + 1),
-        Found::Stops(refusal) => Taken::Stops(refusal, place),
+    let refusal = later_byte(form, area, kind, text, place);
+    if refusal != TAKEN {
+        return refused(refusal, place);
     }
+    let piece = three(first, second, position_in(area, text[place]));
+    character_of(element, piece, place + 1)
 }
 
 // And from its second on.
-fn of_three(to: Form, area: GraphicArea, kind: Kind, first: u8, text: &[u8], place: usize) -> Taken
-    requires { ⌜ place ≤ length (now text) ⌝ }
-    ensures { λ r. ⌜ r ≡ ofThree to area kind first (now (text .entry)) place ⌝ }
-{
-    match later_byte(to, area, kind, text, place) {
-        Found::Byte(second) => third_of_three(to, area, kind, first, second, text, place + 1),
-        Found::Stops(refusal) => Taken::Stops(refusal, place),
-    }
-}
-
-// A character's position bytes from the first on.
-fn position_bytes(
-    to: Form,
-    size: Size,
+fn of_three(
+    form: Form,
     area: GraphicArea,
+    kind: Kind,
+    element: ElementNumber,
     first: u8,
     text: &[u8],
     place: usize,
-) -> Taken
-    requires { ⌜ place < length (now text) ⌝ }
-    ensures { λ r. ⌜ r ≡ bytesAt to size area first (now (text .entry)) place ⌝ }
+) -> Item
+    requires { ⌜ place ≤ length (now text) ⌝ }
+    ensures { λ r. ⌜ (itemOf r ≡ ofThree form area kind (element .0) first (now (text .entry)) place) × Small (r .piece) ⌝ }
 {
-    let kind = kind_of(size);
-    match count_of(size) {
-        Count::One => Taken::Bytes(PositionBytes::One(first), place + 1),
-        Count::Two => of_two(to, area, kind, first, text, place + 1),
-        Count::Three => of_three(to, area, kind, first, text, place + 1),
+    let refusal = later_byte(form, area, kind, text, place);
+    if refusal != TAKEN {
+        return refused(refusal, place);
     }
-}
-
-// The area that a character's bytes come from: after a single shift GL alone.
-fn graphic_area(single: Single, byte: u8) -> GraphicArea
-    ensures { λ r. ⌜ r ≡ graphicArea single byte ⌝ }
-{
-    match single {
-        Single::Not => {
-            if byte < BIT_8 {
-                GraphicArea::GL
-            } else {
-                GraphicArea::GR
-            }
-        }
-        Single::OfG2 => GraphicArea::GL,
-        Single::OfG3 => GraphicArea::GL,
-    }
-}
-
-// The element that a single shift takes, or that the area shows.
-fn element_in(state: State, single: Single, area: GraphicArea) -> Element
-    ensures { λ r. ⌜ r ≡ elementIn state single area ⌝ }
-{
-    let gl = state.gl;
-    let gr = state.gr;
-    match single {
-        Single::Not => match area {
-            GraphicArea::GL => gl,
-            GraphicArea::GR => gr,
-        },
-        Single::OfG2 => Element::G2,
-        Single::OfG3 => Element::G3,
-    }
-}
-
-// 2/0 and 7/15 under 94 type: on the ground in GL they are SPACE and DELETE, elsewhere they are refused.
-fn not_of_set(
-    to: Form,
-    state: State,
-    single: Single,
-    area: GraphicArea,
-    byte: u8,
-    word: usize,
-    text: &[u8],
-    place: usize,
-) -> Turn
-    requires { ⌜ place < length (now text) ⌝ }
-    ensures { λ r. ⌜ did r ≡ notOfSetAt to state single area byte word place ⌝ }
-{
-    match single {
-        Single::Not => match area {
-            GraphicArea::GL => space_or_delete(to, state, byte, word, place + 1),
-            GraphicArea::GR => Turn::Stops(Refusal::NotOfSet, place),
-        },
-        Single::OfG2 => Turn::Stops(Refusal::NotOfSet, place),
-        Single::OfG3 => Turn::Stops(Refusal::NotOfSet, place),
-    }
+    let second = position_in(area, text[place]);
+    third_of_three(form, area, kind, element, first, second, text, place + 1)
 }
 
 // A character from its first byte on.
 fn whole_character(
-    to: Form,
-    state: State,
-    element: Element,
+    form: Form,
+    element: ElementNumber,
     size: Size,
     area: GraphicArea,
     byte: u8,
     text: &[u8],
     place: usize,
-) -> Turn
+) -> Item
     requires { ⌜ place < length (now text) ⌝ }
-    ensures { λ r. ⌜ did r ≡ characterAt to state element size area byte (now (text .entry)) place ⌝ }
+    ensures { λ r. ⌜
+        (itemOf r ≡ characterAt form (element .0) (size .0) area byte (now (text .entry)) place) × Small (r .piece)
+        ⌝ }
 {
-    match position_bytes(to, size, area, position_in(area, byte), text, place) {
-        Taken::Bytes(bytes, there) => character(to, state, element, bytes, there),
-        Taken::Stops(refusal, there) => Turn::Stops(refusal, there),
+    let kind = kind_of(size);
+    let first = position_in(area, byte);
+    match count_of(size) {
+        Count::One => character_of(element, one(first), place + 1),
+        Count::Two => of_two(form, area, kind, element, first, text, place + 1),
+        Count::Three => of_three(form, area, kind, element, first, text, place + 1),
     }
 }
 
-// A byte that is no control, by what it is to the set.
-pub(crate) fn graphic(
-    to: Form,
-    state: State,
-    single: Single,
-    byte: u8,
-    text: &[u8],
-    place: usize,
-) -> Turn
-    requires { ⌜ place < length (now text) ⌝ }
-    ensures { λ r. ⌜ did r ≡ graphicAt to state single byte (now (text .entry)) place ⌝ }
+// The area that a character's bytes come from: after a single shift GL alone.
+fn graphic_area(taken: ElementNumber, byte: u8) -> GraphicArea
+    ensures { λ r. ⌜ r ≡ graphicArea (taken .0) byte ⌝ }
 {
-    let area = graphic_area(single, byte);
-    let element = element_in(state, single, area);
+    if taken.0 != NONE {
+        return GraphicArea::GL;
+    }
+    if byte < BIT_8 {
+        GraphicArea::GL
+    } else {
+        GraphicArea::GR
+    }
+}
+
+// The element that a single shift takes, or that the area shows.
+fn element_in(state: &[u8; CELLS], taken: ElementNumber, byte: u8) -> ElementNumber
+    ensures { λ r. ⌜ r .0 ≡ elementIn (now (state .entry)) (taken .0) byte ⌝ }
+{
+    if taken.0 != NONE {
+        taken
+    } else {
+        element_of(state, byte)
+    }
+}
+
+// 2/0 and 7/15 under 94 type: on the ground in GL they are SPACE and DELETE, elsewhere they are refused.
+fn not_of_set(taken: ElementNumber, byte: u8, word: u8, place: usize, next: usize) -> Item
+    ensures { λ r. ⌜ (itemOf r ≡ notOfSetAt (taken .0) byte word place next) × Small (r .piece) ⌝ }
+{
+    if taken.0 != NONE {
+        return refused(NOT_OF_SET, place);
+    }
+    if byte < BIT_8 {
+        let effect = plain(word, 0);
+        let piece = one(byte);
+        return Item {
+            effect: effect,
+            piece: piece,
+            place: next,
+        };
+    }
+    refused(NOT_OF_SET, place)
+}
+
+// A byte that is no control, by what it is to the set.
+pub(crate) fn graphic(form: Form, state: &[u8; CELLS], byte: u8, text: &[u8], place: usize) -> Item
+    requires { ⌜ place < length (now text) ⌝ }
+    ensures { λ r. ⌜
+        (itemOf r ≡ graphicAt form (now (state .entry)) (singleIn (now (state .entry))) byte (now (text .entry)) place) ×
+        Small (r .piece)
+        ⌝ }
+{
+    let taken = single(state);
+    let area = graphic_area(taken, byte);
+    let element = element_in(state, taken, byte);
     let size = size_in(state, element);
     match byte_in(area, kind_of(size), byte) {
-        SetByte::OfSpace => not_of_set(to, state, single, area, byte, SPACE_WORD, text, place),
-        SetByte::OfDelete => not_of_set(to, state, single, area, byte, DELETE_WORD, text, place),
-        SetByte::OfSet => whole_character(to, state, element, size, area, byte, text, place),
-        SetByte::Outside => Turn::Stops(Refusal::AnotherArea, place),
+        SetByte::OfSpace => not_of_set(taken, byte, SPACE_WORD, place, place + 1),
+        SetByte::OfDelete => not_of_set(taken, byte, DELETE_WORD, place, place + 1),
+        SetByte::OfSet => whole_character(form, element, size, area, byte, text, place),
+        SetByte::Outside => refused(ANOTHER_AREA, place),
     }
 }

@@ -1,66 +1,105 @@
 // The item at a place of a text.
 use crate::character::graphic;
-use crate::other_than;
+use crate::letter::is_letter;
+use crate::piece::Piece;
+use crate::piece::nothing;
+use crate::piece::one;
 use crate::sequence::after_escape;
 use crate::sequence::control;
-use crate::state::Single;
-use crate::state::State;
-use crate::turn::Turn;
+use crate::state::CELLS;
+use crate::state::NONE;
+use crate::state::element_of;
+use crate::state::single;
+use charsets::SPACE;
+use codetable::BIT_8;
 use codetable::ESC;
-use codetable::area_of;
 use codetable::form_has;
-use paper::Area;
+use escapes::effect::CHAR_WORD;
+use escapes::effect::Effect;
+use escapes::effect::ElementNumber;
+use escapes::effect::REFUSED_WORD;
+use escapes::effect::plain;
 use paper::Form;
-use paper::Refusal;
+use refusals::BYTE_OF_EIGHT_BITS;
+ghost use Prim.Native.Nat.{_≤_, _<_};
 ghost use mathlib.Core.Path.{_≡_};
+ghost use mathlib.Core.List.{[]};
 ghost use Rattle.paper.specs.CodeTable.{areaOf};
-ghost use Rattle.items.specs.Turns.{did};
-ghost use Rattle.items.specs.Items.{isControl, isEscape, turnAt};
+ghost use Rattle.items.specs.Pieces.{bytesIn, Small};
+ghost use Rattle.items.specs.Items.{itemOf, characterOf, stopped, isControl, itemAt};
 
-// A byte of C0 or C1, unless a single shift takes it.
-fn is_control(single: Single, byte: u8) -> bool
-    ensures { λ r. ⌜ r ≡ isControl single (areaOf byte) ⌝ }
+// What it does, its bytes, and the place after it. Of a character the value is its element, and the bytes are its position bytes; the
+// bytes of all else are what it is written as in 8-bit form. Of a refusal the value is its number, and the place its place.
+pub struct Item {
+    pub effect: Effect,
+    pub piece: Piece,
+    pub place: usize,
+}
+
+// Past the end of a text there is no item: a word after the paper's.
+pub const PAST_WORD: u8 = 11;
+
+pub(crate) fn character_of(element: ElementNumber, piece: Piece, place: usize) -> Item
+    ensures { λ r. ⌜ (itemOf r ≡ characterOf (element .0) (bytesIn piece) place) × (r .piece ≡ piece) ⌝ }
 {
-    match single {
-        Single::Not => match area_of(byte) {
-            Area::C0 => true,
-            Area::GL => false,
-            Area::C1 => true,
-            Area::GR => false,
-        },
-        Single::OfG2 => false,
-        Single::OfG3 => false,
+    let effect = plain(CHAR_WORD, element.0);
+    Item {
+        effect: effect,
+        piece: piece,
+        place: place,
     }
 }
 
-// ESC, unless a single shift takes it.
-fn is_escape(single: Single, byte: u8) -> bool
-    ensures { λ r. ⌜ r ≡ isEscape single byte ⌝ }
+// A refusal with its place.
+pub(crate) fn refused(number: u8, place: usize) -> Item
+    ensures { λ r. ⌜ (itemOf r ≡ stopped number place) × Small (r .piece) ⌝ }
 {
-    match single {
-        Single::Not => byte == ESC,
-        Single::OfG2 => false,
-        Single::OfG3 => false,
+    let effect = plain(REFUSED_WORD, number);
+    let piece = nothing();
+    Item {
+        effect: effect,
+        piece: piece,
+        place: place,
     }
 }
 
-// What the item at a place does, for a text in the other form than this one and a state between two items. Past the end of the text
-// there is none.
-pub fn turn_at(to: Form, state: State, single: Single, text: &[u8], place: usize) -> Turn
-    ensures { λ r. ⌜ did r ≡ turnAt to state single (now (text .entry)) place ⌝ }
+// Whether a byte is of C0 or C1.
+fn is_control(byte: u8) -> bool
+    ensures { λ r. ⌜ r ≡ isControl (areaOf byte) ⌝ }
+{
+    byte % BIT_8 < SPACE
+}
+
+// The item at a place of a text in a form, for what is known there. Letters are most of a text, so they are tried first.
+pub fn read_item(form: Form, state: &[u8; CELLS], text: &[u8], place: usize) -> Item
+    ensures { λ r. ⌜ (itemOf r ≡ itemAt form (now (state .entry)) (now (text .entry)) place) × Small (r .piece) ⌝ }
 {
     if place >= text.len() {
-        return Turn::Stops(Refusal::EndsInside, place);
+        let effect = plain(PAST_WORD, 0);
+        let piece = nothing();
+        return Item {
+            effect: effect,
+            piece: piece,
+            place: place,
+        };
     }
     let byte = text[place];
-    if is_escape(single, byte) {
-        return after_escape(to, state, text, place + 1);
+    if is_letter(form, state, byte) {
+        return character_of(element_of(state, byte), one(byte % BIT_8), place + 1);
     }
-    if !form_has(other_than(to), byte) {
-        return Turn::Stops(Refusal::ByteOfEightBits, place);
+    let taken = single(state);
+    if taken.0 == NONE {
+        if byte == ESC {
+            return after_escape(form, text, place + 1);
+        }
     }
-    if is_control(single, byte) {
-        return control(to, state, byte, text, place);
+    if !form_has(form, byte) {
+        return refused(BYTE_OF_EIGHT_BITS, place);
     }
-    graphic(to, state, single, byte, text, place)
+    if taken.0 == NONE {
+        if is_control(byte) {
+            return control(byte, place, place + 1);
+        }
+    }
+    graphic(form, state, byte, text, place)
 }

@@ -3,10 +3,12 @@
 ghost use Prim.Native.Nat.{_+_, _*_, _≤_, _<_};
 ghost use mathlib.Core.Path.{_≡_};
 ghost use mathlib.Core.List.{_∷_, []};
-ghost use Rattle.items.specs.Pieces.{bytesIn};
+ghost use Rattle.items.specs.Pieces.{bytesIn, oneByte, front};
 
-// The second place of the number.
+// The second place of the number, and how many places it has room for in front of another.
 pub const SECOND: u64 = 0x100;
+
+const ROOM: u64 = 0x100000000000000;
 
 pub struct Piece {
     pub count: usize,
@@ -14,13 +16,13 @@ pub struct Piece {
 }
 
 pub(crate) fn nothing() -> Piece
-    ensures { λ r. ⌜ bytesIn r ≡ [] ⌝ }
+    ensures { λ r. ⌜ (bytesIn r ≡ []) × (r .count ≡ 0) × (r .bytes ≡ 0) ⌝ }
 {
     Piece { count: 0, bytes: 0 }
 }
 
-pub(crate) fn one(first: u8) -> Piece
-    ensures { λ r. ⌜ (bytesIn r ≡ first ∷ []) × (r .count ≡ 1) × (r .bytes < 0x100) ⌝ }
+pub fn one(first: u8) -> Piece
+    ensures { λ r. ⌜ (r ≡ oneByte first) × (bytesIn r ≡ first ∷ []) × (r .count ≡ 1) × (r .bytes < 0x100) ⌝ }
 {
     Piece {
         count: 1,
@@ -28,18 +30,18 @@ pub(crate) fn one(first: u8) -> Piece
     }
 }
 
-// A byte in front of a piece.
-pub(crate) fn in_front(byte: u8, piece: Piece) -> Piece
-    requires { ⌜ (piece .count ≤ 4) × (piece .bytes < 0x100000000) ⌝ }
+// A byte in front of a piece. What has no room is dropped; a piece that is written has room.
+pub fn in_front(byte: u8, piece: Piece) -> Piece
+    ensures { λ r. ⌜ r ≡ front byte piece ⌝ }
     ensures { λ r. ⌜
-        (bytesIn r ≡ byte ∷ bytesIn piece) ×
-        (r .count ≡ piece .count + 1) ×
-        (r .bytes ≡ piece .bytes * 0x100 + byte)
+        (piece .count ≤ 6 →
+        piece .bytes < 0x100000000000000 →
+        (bytesIn r ≡ byte ∷ bytesIn piece) × (r .count ≡ piece .count + 1) × (r .bytes ≡ piece .bytes * 0x100 + byte))
         ⌝ }
 {
     Piece {
-        count: piece.count + 1,
-        bytes: piece.bytes * SECOND + byte as u64,
+        count: std::num::wrapping_add_usize(piece.count, 1),
+        bytes: piece.bytes % ROOM * SECOND + byte as u64,
     }
 }
 
@@ -56,7 +58,7 @@ pub(crate) fn three(first: u8, second: u8, third: u8) -> Piece
 }
 
 pub(crate) fn four(first: u8, second: u8, third: u8, fourth: u8) -> Piece
-    ensures { λ r. ⌜ bytesIn r ≡ first ∷ second ∷ third ∷ fourth ∷ [] ⌝ }
+    ensures { λ r. ⌜ (bytesIn r ≡ first ∷ second ∷ third ∷ fourth ∷ []) × (r .count ≡ 4) × (r .bytes < 0x100000000) ⌝ }
 {
     in_front(first, three(second, third, fourth))
 }

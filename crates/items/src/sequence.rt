@@ -1,428 +1,205 @@
-// Controls and sequences, read whole. Each way out builds what the item does, so that no choice is handed over to be looked at again.
-use crate::other_than;
+// Controls and sequences, read whole. What they do is asked of `escapes`.
+use crate::item::Item;
+use crate::item::refused;
 use crate::piece::Piece;
 use crate::piece::four;
 use crate::piece::nothing;
 use crate::piece::one;
 use crate::piece::three;
 use crate::piece::two;
-use crate::state::Single;
-use crate::state::Size;
-use crate::state::State;
-use crate::state::with_gl;
-use crate::state::with_gr;
-use crate::state::with_sizes;
-use crate::turn::Turn;
-use crate::word::CONTROL_WORD;
-use crate::word::DESIGNATE_WORD;
-use crate::word::OTHER_WORD;
-use crate::word::SHIFT_WORD;
-use crate::written::function;
 use codetable::BIT_8;
 use codetable::ESC;
 use codetable::SI;
 use codetable::SO;
+use codetable::between;
 use codetable::form_has;
-use escapes::FINAL_OF_FUNCTION;
-use escapes::FINAL_OF_LS1R;
-use escapes::FINAL_OF_LS2;
-use escapes::FINAL_OF_LS2R;
-use escapes::FINAL_OF_LS3;
-use escapes::FINAL_OF_LS3R;
 use escapes::FIRST_INTERMEDIATE;
-use escapes::FIRST_OF_TWO;
 use escapes::FIRST_SHORT;
 use escapes::LAST_FINAL;
+use escapes::LAST_FUNCTION;
 use escapes::LAST_INTERMEDIATE;
-use escapes::LAST_OF_THREE;
-use escapes::LAST_OF_TWO;
 use escapes::LAST_SHORT;
 use escapes::OF_94_INTO_G0;
-use escapes::OF_94_INTO_G1;
-use escapes::OF_94_INTO_G2;
-use escapes::OF_94_INTO_G3;
-use escapes::OF_96_INTO_G1;
-use escapes::OF_96_INTO_G2;
-use escapes::OF_96_INTO_G3;
-use escapes::OF_C0;
-use escapes::OF_C1;
-use escapes::OTHER_BY_AMPERSAND;
-use escapes::OTHER_BY_NUMBER_SIGN;
-use escapes::OTHER_BY_SPACE;
 use escapes::SEVERAL;
-use escapes::SINGLE_SHIFT_THREE;
-use escapes::SINGLE_SHIFT_TWO;
-use paper::Element;
+use escapes::effect::CONTROL_WORD;
+use escapes::effect::Effect;
+use escapes::effect::ElementNumber;
+use escapes::effect::G0;
+use escapes::effect::G1;
+use escapes::effect::REFUSED_WORD;
+use escapes::effect::SHIFT_WORD;
+use escapes::effect::plain;
+use escapes::effect::shows_in_gl;
+use escapes::effect_of_function;
+use escapes::effect_of_none;
+use escapes::effect_of_one;
+use escapes::effect_of_two;
 use paper::Form;
-use paper::Refusal;
-ghost use Prim.Native.Nat.{ℕ, _≤_, _<_};
+use refusals::BYTE_OF_EIGHT_BITS;
+use refusals::ENDS_INSIDE;
+use refusals::NOT_OF_SEQUENCE;
+use refusals::THIRD_INTERMEDIATE;
+use refusals::WITHOUT_MEANING;
+ghost use Prim.Native.Nat.{_≤_, _<_};
 ghost use mathlib.Core.Path.{_≡_};
-ghost use lib.ListN.{length, getD};
-ghost use Rattle.paper.specs.CodeTable.{esc};
-ghost use Rattle.paper.specs.Sequences.{firstFinal, lastFinal, lastFunction, shiftOrOther, c1Function};
-ghost use Rattle.paper.specs.declared.Element.{Element};
-ghost use Rattle.paper.specs.declared.Intermediates.{Intermediates};
-ghost use Rattle.items.specs.Pieces.{bytesIn};
-ghost use Rattle.items.specs.OtherForm.{otherThan};
-ghost use Rattle.items.specs.Turns.{did, designates};
-ghost use Rattle.items.specs.Items.{notOfSequence, sizedBy, severalBytesOf, meantAt, finalAt, afterTwo, afterOne, afterEscape};
-ghost use Rattle.items.specs.Items.{controlOfC0, controlAt, shortAt, shiftRight};
+ghost use lib.ListN.{length};
+ghost use Rattle.items.specs.Pieces.{bytesIn, Small};
+ghost use Rattle.items.specs.Items.{itemOf, notOfSequence, bytesMeant, meantAt, severalBytesOf, afterTwo, afterOne, afterEscape};
+ghost use Rattle.items.specs.Items.{shifts, controlAt};
+
+// How many C1 functions there are.
+const FUNCTIONS: u8 = LAST_FUNCTION + 1;
 
 // A byte that is neither an intermediate nor a final: 1 before 2. Those are bytes of both forms, so 1 is not tested before them.
-fn not_of_sequence(to: Form, byte: u8, place: usize) -> Turn
-    ensures { λ r. ⌜ did r ≡ notOfSequence to byte place ⌝ }
+fn not_of_sequence(form: Form, byte: u8, place: usize) -> Item
+    ensures { λ r. ⌜ (itemOf r ≡ notOfSequence form byte place) × Small (r .piece) ⌝ }
 {
-    if form_has(other_than(to), byte) {
-        Turn::Stops(Refusal::NotOfSequence, place)
+    if form_has(form, byte) {
+        refused(NOT_OF_SEQUENCE, place)
     } else {
-        Turn::Stops(Refusal::ByteOfEightBits, place)
+        refused(BYTE_OF_EIGHT_BITS, place)
     }
 }
 
-// A designation takes effect at its final.
-fn to_g0(state: State, size: Size, piece: Piece, place: usize) -> Turn
-    ensures { λ r. ⌜ did r ≡ designates Element.G0 size state (bytesIn piece) place ⌝ }
+// What is written in 8-bit form for what does this: of a shift nothing, of a C1 function its byte, else these bytes.
+fn piece_meant(effect: Effect, piece: Piece) -> Piece
+    requires { ⌜ Small piece ⌝ }
+    ensures { λ r. ⌜ (bytesIn r ≡ bytesMeant effect (bytesIn piece)) × Small r ⌝ }
 {
-    let g1 = state.g1;
-    let g2 = state.g2;
-    let g3 = state.g3;
-    Turn::Writes(
-        with_sizes(state, size, g1, g2, g3),
-        Single::Not,
-        DESIGNATE_WORD,
-        piece,
-        place,
-    )
-}
-
-fn to_g1(state: State, size: Size, piece: Piece, place: usize) -> Turn
-    ensures { λ r. ⌜ did r ≡ designates Element.G1 size state (bytesIn piece) place ⌝ }
-{
-    let g0 = state.g0;
-    let g2 = state.g2;
-    let g3 = state.g3;
-    Turn::Writes(
-        with_sizes(state, g0, size, g2, g3),
-        Single::Not,
-        DESIGNATE_WORD,
-        piece,
-        place,
-    )
-}
-
-fn to_g2(state: State, size: Size, piece: Piece, place: usize) -> Turn
-    ensures { λ r. ⌜ did r ≡ designates Element.G2 size state (bytesIn piece) place ⌝ }
-{
-    let g0 = state.g0;
-    let g1 = state.g1;
-    let g3 = state.g3;
-    Turn::Writes(
-        with_sizes(state, g0, g1, size, g3),
-        Single::Not,
-        DESIGNATE_WORD,
-        piece,
-        place,
-    )
-}
-
-fn to_g3(state: State, size: Size, piece: Piece, place: usize) -> Turn
-    ensures { λ r. ⌜ did r ≡ designates Element.G3 size state (bytesIn piece) place ⌝ }
-{
-    let g0 = state.g0;
-    let g1 = state.g1;
-    let g2 = state.g2;
-    Turn::Writes(
-        with_sizes(state, g0, g1, g2, size),
-        Single::Not,
-        DESIGNATE_WORD,
-        piece,
-        place,
-    )
-}
-
-// The seven intermediates that designate a graphic set, of 94 or of 96 type; the last byte stands at a place.
-fn sized_by(
-    intermediate: u8,
-    of_94: Size,
-    of_96: Size,
-    piece: Piece,
-    state: State,
-    text: &[u8],
-    place: usize,
-) -> Turn
-    requires { ⌜ place < length (now text) ⌝ }
-    ensures { λ r. ⌜ did r ≡ sizedBy intermediate of_94 of_96 (bytesIn piece) state place ⌝ }
-{
-    match intermediate {
-        OF_94_INTO_G0 => to_g0(state, of_94, piece, place + 1),
-        OF_94_INTO_G1 => to_g1(state, of_94, piece, place + 1),
-        OF_94_INTO_G2 => to_g2(state, of_94, piece, place + 1),
-        OF_94_INTO_G3 => to_g3(state, of_94, piece, place + 1),
-        OF_96_INTO_G1 => to_g1(state, of_96, piece, place + 1),
-        OF_96_INTO_G2 => to_g2(state, of_96, piece, place + 1),
-        OF_96_INTO_G3 => to_g3(state, of_96, piece, place + 1),
-        _ => Turn::Stops(Refusal::WithoutMeaning, place),
+    let word = effect.word;
+    let number = word.0;
+    match number {
+        SHIFT_WORD => nothing(),
+        CONTROL_WORD => one(BIT_8 + effect.value % FUNCTIONS),
+        _ => piece,
     }
 }
 
-// What is written for a set of two bytes: into G0 the short sequence where there is one.
-fn piece_of_two(second: u8, last: u8) -> Piece
-    requires { ⌜ 0x40 ≤ last ⌝ }
-    ensures { λ r. ⌜ bytesIn r ≡ severalBytesOf second last ⌝ }
+// A sequence or a C1 function that does this and has these bytes: the place of its last byte, and the next.
+fn meant(effect: Effect, piece: Piece, place: usize, next: usize) -> Item
+    requires { ⌜ Small piece ⌝ }
+    ensures { λ r. ⌜ (itemOf r ≡ meantAt effect (bytesIn piece) place next) × Small (r .piece) ⌝ }
+{
+    let word = effect.word;
+    if word.0 == REFUSED_WORD {
+        return refused(WITHOUT_MEANING, place);
+    }
+    let written = piece_meant(effect, piece);
+    Item {
+        effect: effect,
+        piece: written,
+        place: next,
+    }
+}
+
+// What is written for a set of several bytes: into G0 the short sequence where there is one.
+fn piece_of_several(second: u8, last: u8) -> Piece
+    ensures { λ r. ⌜ (bytesIn r ≡ severalBytesOf second last) × Small r ⌝ }
 {
     if second == OF_94_INTO_G0 {
-        if last <= LAST_SHORT {
+        if between(FIRST_SHORT, LAST_SHORT, last) {
             return three(ESC, SEVERAL, last);
         }
+        return four(ESC, SEVERAL, OF_94_INTO_G0, last);
     }
     four(ESC, SEVERAL, second, last)
 }
 
-// The final of a sequence with two intermediates, at a place.
-fn with_two(to: Form, state: State, first: u8, second: u8, text: &[u8], place: usize) -> Turn
-    requires { ⌜ place < length (now text) ⌝ }
-    ensures { λ r. ⌜ did r ≡ finalAt to (Intermediates.Two first second) state (now (text .entry)) place ⌝ }
-{
-    let last = text[place];
-    if first != SEVERAL {
-        return Turn::Stops(Refusal::WithoutMeaning, place);
-    }
-    if last < FIRST_OF_TWO {
-        return Turn::Stops(Refusal::WithoutMeaning, place);
-    }
-    if last <= LAST_OF_TWO {
-        let piece = piece_of_two(second, last);
-        return sized_by(
-            second,
-            Size::TwoOf94,
-            Size::TwoOf96,
-            piece,
-            state,
-            text,
-            place,
-        );
-    }
-    if last <= LAST_OF_THREE {
-        let piece = four(ESC, SEVERAL, second, last);
-        return sized_by(
-            second,
-            Size::ThreeOf94,
-            Size::ThreeOf96,
-            piece,
-            state,
-            text,
-            place,
-        );
-    }
-    Turn::Stops(Refusal::WithoutMeaning, place)
-}
-
-// The short sequence for a set of two bytes into G0.
-fn short(state: State, last: u8, piece: Piece, text: &[u8], place: usize) -> Turn
-    requires { ⌜ place < length (now text) ⌝ }
-    ensures { λ r. ⌜ did r ≡ shortAt last (bytesIn piece) state place ⌝ }
-{
-    if last < FIRST_SHORT {
-        return Turn::Stops(Refusal::WithoutMeaning, place);
-    }
-    if last <= LAST_SHORT {
-        return to_g0(state, Size::TwoOf94, piece, place + 1);
-    }
-    Turn::Stops(Refusal::WithoutMeaning, place)
-}
-
-// The final of a sequence with one intermediate, at a place. All that has a meaning is written as it was read.
-fn with_one(to: Form, state: State, first: u8, text: &[u8], place: usize) -> Turn
-    requires { ⌜
-        (place < length (now text)) × (firstFinal ≤ getD (now text) place 0) × (getD (now text) place 0 ≤ lastFinal)
-        ⌝ }
-    ensures { λ r. ⌜ did r ≡ finalAt to (Intermediates.One first) state (now (text .entry)) place ⌝ }
-{
-    let last = text[place];
-    let piece = three(ESC, first, last);
-    match first {
-        OTHER_BY_SPACE => Turn::Writes(state, Single::Not, OTHER_WORD, piece, place + 1),
-        OTHER_BY_NUMBER_SIGN => Turn::Writes(state, Single::Not, OTHER_WORD, piece, place + 1),
-        OTHER_BY_AMPERSAND => Turn::Writes(state, Single::Not, OTHER_WORD, piece, place + 1),
-        OF_C0 => Turn::Writes(state, Single::Not, DESIGNATE_WORD, piece, place + 1),
-        OF_C1 => Turn::Writes(state, Single::Not, DESIGNATE_WORD, piece, place + 1),
-        SEVERAL => short(state, last, piece, text, place),
-        _ => sized_by(first, Size::Of94, Size::Of96, piece, state, text, place),
-    }
-}
-
-// A shift into GR, which a text in 7-bit form does not have.
-fn shift_right(to: Form, state: State, gr: Element, text: &[u8], place: usize) -> Turn
-    requires { ⌜ place < length (now text) ⌝ }
-    ensures { λ r. ⌜ did r ≡ shiftRight to gr state place ⌝ }
-{
-    match to {
-        Form::Seven => Turn::Writes(
-            with_gr(state, gr),
-            Single::Not,
-            SHIFT_WORD,
-            nothing(),
-            place + 1,
-        ),
-        Form::Eight => Turn::Stops(Refusal::WithoutMeaning, place),
-    }
-}
-
-// ESC F, F 6/0 to 7/14: what is no shift is written as it was read.
-fn shift_or_other(to: Form, state: State, last: u8, text: &[u8], place: usize) -> Turn
-    requires { ⌜ place < length (now text) ⌝ }
-    ensures { λ r. ⌜ did r ≡ meantAt to (shiftOrOther (otherThan to) last) Intermediates.None last state place ⌝ }
-{
-    match last {
-        FINAL_OF_LS2 => Turn::Writes(
-            with_gl(state, Element::G2),
-            Single::Not,
-            SHIFT_WORD,
-            nothing(),
-            place + 1,
-        ),
-        FINAL_OF_LS3 => Turn::Writes(
-            with_gl(state, Element::G3),
-            Single::Not,
-            SHIFT_WORD,
-            nothing(),
-            place + 1,
-        ),
-        FINAL_OF_LS1R => shift_right(to, state, Element::G1, text, place),
-        FINAL_OF_LS2R => shift_right(to, state, Element::G2, text, place),
-        FINAL_OF_LS3R => shift_right(to, state, Element::G3, text, place),
-        _ => Turn::Writes(state, Single::Not, OTHER_WORD, two(ESC, last), place + 1),
-    }
-}
-
-// A C1 function by its number, from its final or from its byte of C1.
-fn function_at(to: Form, state: State, number: u8, text: &[u8], place: usize) -> Turn
-    requires { ⌜ (place < length (now text)) × (number ≤ lastFunction) ⌝ }
-    ensures { λ r. ⌜ ((last : ℕ) → did r ≡ meantAt to (c1Function number) Intermediates.None last state place) ⌝ }
-{
-    match number {
-        SINGLE_SHIFT_TWO => Turn::Writes(state, Single::OfG2, SHIFT_WORD, nothing(), place + 1),
-        SINGLE_SHIFT_THREE => Turn::Writes(state, Single::OfG3, SHIFT_WORD, nothing(), place + 1),
-        _ => Turn::Writes(
-            state,
-            Single::Not,
-            CONTROL_WORD,
-            function(to, number),
-            place + 1,
-        ),
-    }
-}
-
-// The final of a sequence with no intermediate, at a place.
-fn with_none(to: Form, state: State, text: &[u8], place: usize) -> Turn
-    requires { ⌜
-        (place < length (now text)) × (firstFinal ≤ getD (now text) place 0) × (getD (now text) place 0 ≤ lastFinal)
-        ⌝ }
-    ensures { λ r. ⌜ did r ≡ finalAt to Intermediates.None state (now (text .entry)) place ⌝ }
-{
-    let last = text[place];
-    if last < FINAL_OF_FUNCTION {
-        return Turn::Writes(state, Single::Not, OTHER_WORD, two(ESC, last), place + 1);
-    }
-    if last <= LAST_OF_TWO {
-        return function_at(to, state, last - FINAL_OF_FUNCTION, text, place);
-    }
-    shift_or_other(to, state, last, text, place)
-}
-
 // Inside a sequence, by how many intermediates stand before. The tests are those of `escapes::sequence_byte`.
-fn after_two(to: Form, state: State, first: u8, second: u8, text: &[u8], place: usize) -> Turn
+fn after_two(form: Form, first: u8, second: u8, text: &[u8], place: usize) -> Item
     requires { ⌜ place ≤ length (now text) ⌝ }
-    ensures { λ r. ⌜ did r ≡ afterTwo to first second state (now (text .entry)) place ⌝ }
+    ensures { λ r. ⌜ (itemOf r ≡ afterTwo form first second (now (text .entry)) place) × Small (r .piece) ⌝ }
 {
     if place >= text.len() {
-        return Turn::Stops(Refusal::EndsInside, place);
+        return refused(ENDS_INSIDE, place);
     }
     let byte = text[place];
     if byte < FIRST_INTERMEDIATE {
-        return not_of_sequence(to, byte, place);
+        return not_of_sequence(form, byte, place);
     }
     if byte <= LAST_INTERMEDIATE {
-        return Turn::Stops(Refusal::ThirdIntermediate, place);
+        return refused(THIRD_INTERMEDIATE, place);
     }
     if byte <= LAST_FINAL {
-        return with_two(to, state, first, second, text, place);
+        let effect = effect_of_two(first, second, byte);
+        return meant(effect, piece_of_several(second, byte), place, place + 1);
     }
-    not_of_sequence(to, byte, place)
+    not_of_sequence(form, byte, place)
 }
 
-fn after_one(to: Form, state: State, first: u8, text: &[u8], place: usize) -> Turn
+fn after_one(form: Form, first: u8, text: &[u8], place: usize) -> Item
     requires { ⌜ place ≤ length (now text) ⌝ }
-    ensures { λ r. ⌜ did r ≡ afterOne to first state (now (text .entry)) place ⌝ }
+    ensures { λ r. ⌜ (itemOf r ≡ afterOne form first (now (text .entry)) place) × Small (r .piece) ⌝ }
 {
     if place >= text.len() {
-        return Turn::Stops(Refusal::EndsInside, place);
+        return refused(ENDS_INSIDE, place);
     }
     let byte = text[place];
     if byte < FIRST_INTERMEDIATE {
-        return not_of_sequence(to, byte, place);
+        return not_of_sequence(form, byte, place);
     }
     if byte <= LAST_INTERMEDIATE {
-        return after_two(to, state, first, byte, text, place + 1);
+        return after_two(form, first, byte, text, place + 1);
     }
     if byte <= LAST_FINAL {
-        return with_one(to, state, first, text, place);
+        let effect = effect_of_one(first, byte);
+        return meant(effect, three(ESC, first, byte), place, place + 1);
     }
-    not_of_sequence(to, byte, place)
+    not_of_sequence(form, byte, place)
 }
 
-pub(crate) fn after_escape(to: Form, state: State, text: &[u8], place: usize) -> Turn
+pub(crate) fn after_escape(form: Form, text: &[u8], place: usize) -> Item
     requires { ⌜ place ≤ length (now text) ⌝ }
-    ensures { λ r. ⌜ did r ≡ afterEscape to state (now (text .entry)) place ⌝ }
+    ensures { λ r. ⌜ (itemOf r ≡ afterEscape form (now (text .entry)) place) × Small (r .piece) ⌝ }
 {
     if place >= text.len() {
-        return Turn::Stops(Refusal::EndsInside, place);
+        return refused(ENDS_INSIDE, place);
     }
     let byte = text[place];
     if byte < FIRST_INTERMEDIATE {
-        return not_of_sequence(to, byte, place);
+        return not_of_sequence(form, byte, place);
     }
     if byte <= LAST_INTERMEDIATE {
-        return after_one(to, state, byte, text, place + 1);
+        return after_one(form, byte, text, place + 1);
     }
     if byte <= LAST_FINAL {
-        return with_none(to, state, text, place);
+        let effect = effect_of_none(form, byte);
+        return meant(effect, two(ESC, byte), place, place + 1);
     }
-    not_of_sequence(to, byte, place)
+    not_of_sequence(form, byte, place)
 }
 
-// SI and SO; every other byte of C0 but ESC is written as it is.
-fn control_of_c0(state: State, byte: u8, place: usize) -> Turn
-    ensures { λ r. ⌜ did r ≡ controlOfC0 state byte place ⌝ }
+// SO or SI: the element that GL shows from now on.
+fn shift(element: ElementNumber, next: usize) -> Item
+    ensures { λ r. ⌜ (itemOf r ≡ shifts (element .0) next) × Small (r .piece) ⌝ }
 {
-    if byte == SO {
-        return Turn::Writes(
-            with_gl(state, Element::G1),
-            Single::Not,
-            SHIFT_WORD,
-            nothing(),
-            place,
-        );
+    let effect = shows_in_gl(element);
+    let piece = nothing();
+    Item {
+        effect: effect,
+        piece: piece,
+        place: next,
     }
-    if byte == SI {
-        return Turn::Writes(
-            with_gl(state, Element::G0),
-            Single::Not,
-            SHIFT_WORD,
-            nothing(),
-            place,
-        );
-    }
-    Turn::Writes(state, Single::Not, CONTROL_WORD, one(byte), place)
 }
 
-// A byte of C0 or C1 on the ground that is not ESC.
-pub(crate) fn control(to: Form, state: State, byte: u8, text: &[u8], place: usize) -> Turn
-    requires { ⌜ (place < length (now text)) × (byte < 0xA0) × (byte ≡ esc → ⊥) ⌝ }
-    ensures { λ r. ⌜ did r ≡ controlAt to state byte (now (text .entry)) place ⌝ }
+// A byte of C0 or C1 on the ground that is not ESC: its place, and the next.
+pub(crate) fn control(byte: u8, place: usize, next: usize) -> Item
+    ensures { λ r. ⌜ (itemOf r ≡ controlAt byte place next) × Small (r .piece) ⌝ }
 {
     if BIT_8 <= byte {
-        return function_at(to, state, byte - BIT_8, text, place);
+        return meant(effect_of_function(byte - BIT_8), nothing(), place, next);
     }
-    control_of_c0(state, byte, place + 1)
+    if byte == SO {
+        return shift(ElementNumber(G1), next);
+    }
+    if byte == SI {
+        return shift(ElementNumber(G0), next);
+    }
+    let effect = plain(CONTROL_WORD, byte);
+    let piece = one(byte);
+    Item {
+        effect: effect,
+        piece: piece,
+        place: next,
+    }
 }

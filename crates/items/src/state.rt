@@ -1,180 +1,70 @@
-// What is known between two items of a text: what GL and GR show, what GL shows in the output, and the size of each element's set.
-// Their Final Bytes are not kept, since nothing that is counted or written depends on them. The fields stand in this order, and a
-// changed state is built anew, so that a compiler keeps each field by itself; docs/SPEED.md says more.
-use paper::Count;
-use paper::Element;
-use paper::Kind;
+// What is known between two items of a text, in cells: the sizes of the sets in G0 to G3, what GL and GR show, and the element that a
+// single shift takes, or none. Their Final Bytes are not kept, since nothing that is counted or written depends on them. The state is a
+// row of small numbers, so that an item changes it by one store; docs/SPEED.md says more.
+use charsets::Size;
+use codetable::BIT_8;
+use escapes::effect::Effect;
+use escapes::effect::ElementNumber;
+use escapes::effect::GL;
+use escapes::effect::GR;
+use escapes::effect::SINGLE;
 ghost use mathlib.Core.Path.{_≡_};
-ghost use Rattle.items.specs.States.{kindOf, countOf, isOne, sizeIn, startingState, withGL, withGR, withShown, withSizes};
+ghost use Rattle.items.specs.States.{singleIn, leftIn, rightIn, sizeIn, elementOf, changed, startingCells};
 
-// The type of a set, and how many bytes there are to a character.
-pub enum Size {
-    Of94,
-    Of96,
-    TwoOf94,
-    TwoOf96,
-    ThreeOf94,
-    ThreeOf96,
-}
+// How many cells there are: more than are used, so that the remainder of any number is one.
+pub const CELLS: usize = 16;
 
-pub struct State {
-    pub g0: Size,
-    pub gl: Element,
-    pub gr: Element,
-    pub g1: Size,
-    pub shown: Element,
-    pub g2: Size,
-    pub g3: Size,
-}
+// No single shift.
+pub const NONE: u8 = 0;
 
-// Whether a single shift takes the next character.
-pub enum Single {
-    Not,
-    OfG2,
-    OfG3,
-}
-
-pub fn starting() -> State
-    ensures { λ r. ⌜ r ≡ startingState ⌝ }
+// G0 of 94 type, G1 to G3 of 96 type; GL shows G0, GR shows G1.
+pub fn starting() -> [u8; CELLS]
+    ensures { λ r. ⌜ r ≡ startingCells ⌝ }
 {
-    State {
-        g0: Size::Of94,
-        gl: Element::G0,
-        gr: Element::G1,
-        g1: Size::Of96,
-        shown: Element::G0,
-        g2: Size::Of96,
-        g3: Size::Of96,
+    [0, 0, 0, 1, 1, 1, 2, 3, NONE, 0, 0, 0, 0, 0, 0, 0]
+}
+
+pub fn single(state: &[u8; CELLS]) -> ElementNumber
+    ensures { λ r. ⌜ r .0 ≡ singleIn (now (state .entry)) ⌝ }
+{
+    ElementNumber(state[SINGLE as usize])
+}
+
+pub fn left(state: &[u8; CELLS]) -> ElementNumber
+    ensures { λ r. ⌜ r .0 ≡ leftIn (now (state .entry)) ⌝ }
+{
+    ElementNumber(state[GL as usize])
+}
+
+pub fn right(state: &[u8; CELLS]) -> ElementNumber
+    ensures { λ r. ⌜ r .0 ≡ rightIn (now (state .entry)) ⌝ }
+{
+    ElementNumber(state[GR as usize])
+}
+
+// The size of an element's set.
+pub fn size_in(state: &[u8; CELLS], element: ElementNumber) -> Size
+    ensures { λ r. ⌜ r .0 ≡ sizeIn (now (state .entry)) (element .0) ⌝ }
+{
+    Size(state[element.0 as usize % CELLS])
+}
+
+// The element that the area of a byte shows.
+pub fn element_of(state: &[u8; CELLS], byte: u8) -> ElementNumber
+    ensures { λ r. ⌜ r .0 ≡ elementOf (now (state .entry)) byte ⌝ }
+{
+    if byte < BIT_8 {
+        left(state)
+    } else {
+        right(state)
     }
 }
 
-pub fn kind_of(size: Size) -> Kind
-    ensures { λ r. ⌜ r ≡ kindOf size ⌝ }
+// A single shift is spent, and the cell has its value.
+pub fn change(state: &mut [u8; CELLS], effect: Effect)
+    ensures { λ _. ⌜ now (state .exit) ≡ changed effect (now (state .entry)) ⌝ }
 {
-    match size {
-        Size::Of94 => Kind::Of94,
-        Size::Of96 => Kind::Of96,
-        Size::TwoOf94 => Kind::Of94,
-        Size::TwoOf96 => Kind::Of96,
-        Size::ThreeOf94 => Kind::Of94,
-        Size::ThreeOf96 => Kind::Of96,
-    }
-}
-
-pub(crate) fn count_of(size: Size) -> Count
-    ensures { λ r. ⌜ r ≡ countOf size ⌝ }
-{
-    match size {
-        Size::Of94 => Count::One,
-        Size::Of96 => Count::One,
-        Size::TwoOf94 => Count::Two,
-        Size::TwoOf96 => Count::Two,
-        Size::ThreeOf94 => Count::Three,
-        Size::ThreeOf96 => Count::Three,
-    }
-}
-
-pub(crate) fn is_one(size: Size) -> bool
-    ensures { λ r. ⌜ r ≡ isOne size ⌝ }
-{
-    match size {
-        Size::Of94 => true,
-        Size::Of96 => true,
-        Size::TwoOf94 => false,
-        Size::TwoOf96 => false,
-        Size::ThreeOf94 => false,
-        Size::ThreeOf96 => false,
-    }
-}
-
-pub fn size_in(state: State, element: Element) -> Size
-    ensures { λ r. ⌜ r ≡ sizeIn state element ⌝ }
-{
-    let g0 = state.g0;
-    let g1 = state.g1;
-    let g2 = state.g2;
-    let g3 = state.g3;
-    match element {
-        Element::G0 => g0,
-        Element::G1 => g1,
-        Element::G2 => g2,
-        Element::G3 => g3,
-    }
-}
-
-pub(crate) fn with_gl(state: State, gl: Element) -> State
-    ensures { λ r. ⌜ r ≡ withGL gl state ⌝ }
-{
-    let gr = state.gr;
-    let shown = state.shown;
-    let g0 = state.g0;
-    let g1 = state.g1;
-    let g2 = state.g2;
-    let g3 = state.g3;
-    State {
-        g0: g0,
-        gl: gl,
-        gr: gr,
-        g1: g1,
-        shown: shown,
-        g2: g2,
-        g3: g3,
-    }
-}
-
-pub(crate) fn with_gr(state: State, gr: Element) -> State
-    ensures { λ r. ⌜ r ≡ withGR gr state ⌝ }
-{
-    let gl = state.gl;
-    let shown = state.shown;
-    let g0 = state.g0;
-    let g1 = state.g1;
-    let g2 = state.g2;
-    let g3 = state.g3;
-    State {
-        g0: g0,
-        gl: gl,
-        gr: gr,
-        g1: g1,
-        shown: shown,
-        g2: g2,
-        g3: g3,
-    }
-}
-
-pub fn with_shown(state: State, shown: Element) -> State
-    ensures { λ r. ⌜ r ≡ withShown shown state ⌝ }
-{
-    let gl = state.gl;
-    let gr = state.gr;
-    let g0 = state.g0;
-    let g1 = state.g1;
-    let g2 = state.g2;
-    let g3 = state.g3;
-    State {
-        g0: g0,
-        gl: gl,
-        gr: gr,
-        g1: g1,
-        shown: shown,
-        g2: g2,
-        g3: g3,
-    }
-}
-
-pub(crate) fn with_sizes(state: State, g0: Size, g1: Size, g2: Size, g3: Size) -> State
-    ensures { λ r. ⌜ r ≡ withSizes g0 g1 g2 g3 state ⌝ }
-{
-    let gl = state.gl;
-    let gr = state.gr;
-    let shown = state.shown;
-    State {
-        g0: g0,
-        gl: gl,
-        gr: gr,
-        g1: g1,
-        shown: shown,
-        g2: g2,
-        g3: g3,
-    }
+    let cell = effect.cell;
+    state[SINGLE as usize] = NONE;
+    state[cell.0 as usize % CELLS] = effect.value;
 }

@@ -82,6 +82,19 @@ passes-means x b e =
     inr (leb-true b (x .plain) (w .0), q .0, q .1, q .2))
     (either-true (between (x .first) (x .last) b) (leb b (x .plain) gives isQuiet b or false) e)
 
+-- a lane that lets through what another does
+pub passes-too : (x y : Lane) (b : ℕ) → passes x b ≡ true → (x .first ≤ b → b ≤ x .last → passes y b ≡ true) →
+    (b ≤ x .plain → b ≤ y .plain) → passes y b ≡ true
+unfolding passes
+passes-too x y b e bounds plain =
+    ⊎-elim
+    (λ inside. let w = between-bounds (x .first) (x .last) b inside in bounds (w .0) (w .1))
+    (λ low.
+    let w = both-true (leb b (x .plain)) (isQuiet b) low in
+    rw (le-leb b (y .plain) (plain (leb-true b (x .plain) (w .0))), w .1)
+    (gives-by (λ (t : Bool). t ≡ true) (between (y .first) (y .last) b) (λ e. refl) (λ e. refl)))
+    (either-true (between (x .first) (x .last) b) (leb b (x .plain) gives isQuiet b or false) e)
+
 -- and which bytes pass
 
 pub bound-passes : (x : Lane) (b : ℕ) → x .first ≤ b → b ≤ x .last → passes x b ≡ true

@@ -1,1 +1,4 @@
 pub mod EachPasses
+pub mod GapItems
+pub mod LaneItems
+pub mod LettersPass

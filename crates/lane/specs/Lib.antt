@@ -1,1 +1,3 @@
+pub mod Gaps
+pub mod Lanes
 pub mod Passing

@@ -1,15 +1,33 @@
-// The lane: runs of bytes that leave what is known of a text as it is. A byte passes that is at most a last plain byte and neither
-// SO, SI nor ESC, or that stands within bounds. Sixteen bytes are tried at once.
+// The lane: runs of bytes that leave what is known of a text as it is, each a character, SPACE or a control. A byte passes that is at
+// most a last plain byte and neither SO, SI nor ESC, or that stands within bounds. Sixteen bytes are tried at once.
+use charsets::DELETE;
+use charsets::OF_94;
+use charsets::OF_96;
 use charsets::SPACE;
+use charsets::Size;
+use charsets::is_of_94;
+use charsets::kind_of;
+use codetable::BIT_8;
 use codetable::ESC;
 use codetable::SI;
 use codetable::SO;
+use codetable::between;
+use escapes::effect::ElementNumber;
+use escapes::effect::G0;
+use escapes::effect::G1;
+use items::state::CELLS;
+use items::state::left;
+use items::state::right;
+use items::state::size_in;
+use paper::Form;
 ghost use Prim.Native.Nat.{_+_, _≤_};
 ghost use mathlib.Core.Path.{_≡_};
 ghost use mathlib.Core.Bool.{false, true};
 ghost use lib.ListN.{length};
-ghost use Rattle.paper.specs.Choice.{_gives_or_, between};
+ghost use Rattle.paper.specs.Choice.{_gives_or_};
 ghost use Rattle.lane.specs.Passing.{isQuiet, passes, passAll, byteAhead, blockAhead};
+ghost use Rattle.lane.specs.Lanes.{lastPlain, laneWith, laneOf};
+ghost use Rattle.lane.specs.Gaps.{hasGaps, gapAhead, wordAhead};
 
 // How many bytes are tried at once.
 pub const BLOCK: usize = 16;
@@ -26,6 +44,57 @@ pub struct Lane {
     pub last: u8,
 }
 
+// The last byte of GL that is a position of a set of one byte, or SPACE; where there are several bytes to a character the last control.
+fn last_plain(size: Size) -> u8
+    ensures { λ r. ⌜ r ≡ lastPlain (size .0) ⌝ }
+{
+    let number = size.0;
+    match number {
+        OF_94 => DELETE - 1,
+        OF_96 => DELETE,
+        _ => SPACE - 1,
+    }
+}
+
+// Beside the plain bytes the positions of a set of one byte in GR.
+fn lane_with(plain: u8, size: Size) -> Lane
+    ensures { λ r. ⌜ r ≡ laneWith plain (size .0) ⌝ }
+{
+    let number = size.0;
+    match number {
+        OF_94 => Lane {
+            plain: plain,
+            first: BIT_8 + SPACE + 1,
+            last: BIT_8 + DELETE - 1,
+        },
+        OF_96 => Lane {
+            plain: plain,
+            first: BIT_8 + SPACE,
+            last: BIT_8 + DELETE,
+        },
+        _ => Lane {
+            plain: plain,
+            first: FIRST_OF_NONE,
+            last: LAST_OF_NONE,
+        },
+    }
+}
+
+// What passes in a state: plain bytes by the set in GL, and in 8-bit form bytes of GR.
+pub fn lane_of(form: Form, state: &[u8; CELLS]) -> Lane
+    ensures { λ r. ⌜ r ≡ laneOf form (now (state .entry)) ⌝ }
+{
+    let plain = last_plain(size_in(state, left(state)));
+    match form {
+        Form::Seven => Lane {
+            plain: plain,
+            first: FIRST_OF_NONE,
+            last: LAST_OF_NONE,
+        },
+        Form::Eight => lane_with(plain, size_in(state, right(state))),
+    }
+}
+
 // Both are looked at in any case, so that a compiler can do it for sixteen bytes at once.
 fn both(one: bool, other: bool) -> bool
     ensures { λ r. ⌜ r ≡ (one gives other or false) ⌝ }
@@ -39,25 +108,18 @@ fn either(one: bool, other: bool) -> bool
     if one { true } else { other }
 }
 
-// Between two bounds.
-pub fn within(first: u8, last: u8, byte: u8) -> bool
-    ensures { λ r. ⌜ r ≡ between first last byte ⌝ }
-{
-    both(first <= byte, byte <= last)
-}
-
 // Neither SO, SI nor ESC.
 fn is_quiet(byte: u8) -> bool
     ensures { λ r. ⌜ r ≡ isQuiet byte ⌝ }
 {
-    both(byte != ESC, !within(SO, SI, byte))
+    both(byte != ESC, !between(SO, SI, byte))
 }
 
 fn passes(lane: Lane, byte: u8) -> bool
     ensures { λ r. ⌜ r ≡ passes lane byte ⌝ }
 {
     let plain = both(byte <= lane.plain, is_quiet(byte));
-    either(within(lane.first, lane.last, byte), plain)
+    either(between(lane.first, lane.last, byte), plain)
 }
 
 // The same for one byte, by as few tests as a letter takes.
@@ -111,4 +173,48 @@ pub fn block_ahead(lane: Lane, text: &[u8], place: usize) -> bool
         return false;
     }
     block_passes(lane, text, place)
+}
+
+// Whether the state is what it was after SI, SPACE and SO: GL shows G1, and 2/0 is SPACE in G0.
+pub fn has_gaps(state: &[u8; CELLS]) -> bool
+    ensures { λ r. ⌜ r ≡ hasGaps (now (state .entry)) ⌝ }
+{
+    let shown = left(state);
+    if shown.0 == G1 {
+        is_of_94(kind_of(size_in(state, ElementNumber(G0))))
+    } else {
+        false
+    }
+}
+
+// Whether SI, SPACE and SO stand at a place.
+pub fn gap_ahead(text: &[u8], place: usize) -> bool
+    ensures { λ r. ⌜ r ≡ gapAhead (now (text .entry)) place ⌝ }
+{
+    if text.len() < place {
+        return false;
+    }
+    if text.len() - place < 3 {
+        return false;
+    }
+    if text[place] != SI {
+        return false;
+    }
+    if text[place + 1] != SPACE {
+        return false;
+    }
+    text[place + 2] == SO
+}
+
+// Whether no control or space follows the byte at a place: a word goes on.
+pub fn word_ahead(text: &[u8], place: usize) -> bool
+    ensures { λ r. ⌜ r ≡ wordAhead (now (text .entry)) place ⌝ }
+{
+    if text.len() < place {
+        return false;
+    }
+    if text.len() - place < 2 {
+        return false;
+    }
+    SPACE < text[place + 1]
 }

@@ -1,15 +1,13 @@
--- An arm for each clause of `atTheEnd`.
-use borrow.Author.Needs.{needs}
+-- Both sides ask whether a single shift stands.
+use Rattle.paper.proofs.Tests.{tests}
 use Rattle.converter.proofs.at_the_end.Statement.{statement}
 use Rattle.converter.proofs.at_the_end.Tie as tie
 
+returns : tie.Need-returns
+returns c = search tests
+
+returns-2 : tie.Need-returns-2
+returns-2 c = search tests
+
 pub at-the-end-spec : {M : Type 1} → statement M
-at-the-end-spec =
-    tie.close
-    (tie.spec
-    (λ c. search needs)
-    (λ c. search needs)
-    (λ c. search needs)
-    (λ c. simp (c .enum-told .given .1))
-    (λ c. simp (c .enum-told2 .given .1))
-    (λ c. simp (c .enum-told3 .given .1)))
+at-the-end-spec = tie.close (tie.spec returns returns-2)

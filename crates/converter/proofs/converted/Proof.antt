@@ -1,7 +1,6 @@
 -- The four ways that `ConvertedByTwoPasses` tells apart.
 use mathlib.Core.Path.{sym, _∙_}
 use borrow.Author.Needs.{needs}
-use Rattle.items.specs.OtherForm.{otherThan}
 use Rattle.converter.proofs.ConvertedByTwoPasses.{too-long, refused-at, no-room, written}
 use Rattle.converter.proofs.converted.Statement.{statement}
 use Rattle.converter.proofs.converted.Tie as tie
@@ -18,20 +17,20 @@ abbrev tested : tie.After-no-room2 → tie.Else1
 tested c = c .before .before .before
 
 returns : tie.Need-returns
-returns c = let s = c .before .before .before .args in too-long (otherThan (s .to)) (s .to) (s .text .now) (s .buffer .now) (c .if1 .taken)
+returns c = let s = c .before .before .before .args in too-long (s .form) (s .to) (s .text .now) (s .buffer .now) (c .if1 .taken)
 
 returns-2 : tie.Need-returns-2
 returns-2 c =
     let m = c .before .before .before in
     let s = called (tested m) .args in
-    refused-at (otherThan (s .to)) (s .to) (s .text .now) (s .buffer .now) (tested m .if1 .left) _ _
+    refused-at (s .form) (s .to) (s .text .now) (s .buffer .now) (tested m .if1 .left) _ _
     (sym (c .before .refusal .given .1) ∙ passed m .pass .ensures .0)
 
 returns-3 : tie.Need-returns-3
 returns-3 c =
     let m = c .before .before .before .before .before .before .before .before in
     let s = called (tested m) .args in
-    written (otherThan (s .to)) (s .to) (s .text .now) (s .buffer .now) (tested m .if1 .left) _
+    written (s .form) (s .to) (s .text .now) (s .buffer .now) (tested m .if1 .left) _
     (sym (c .before .before .before .before .before .before .length .given .1) ∙ passed m .pass .ensures .0)
     (c .before .before .before .before .if2 .taken) _ _
     (c .before .before .pass2 .ensures .0) (c .before .before .pass2 .ensures .1)
@@ -40,7 +39,7 @@ returns-4 : tie.Need-returns-4
 returns-4 c =
     let m = c .before .before .before .before in
     let s = called (tested m) .args in
-    no-room (otherThan (s .to)) (s .to) (s .text .now) (s .buffer .now) (tested m .if1 .left) _
+    no-room (s .form) (s .to) (s .text .now) (s .buffer .now) (tested m .if1 .left) _
     (sym (c .before .before .length .given .1) ∙ passed m .pass .ensures .0) (c .if2 .left)
 
 pub converted-spec : {M : Type 1} → statement M

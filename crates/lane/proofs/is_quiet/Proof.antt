@@ -18,7 +18,7 @@ returns : tie.Need-returns
 unfolding isQuiet
 returns c =
     let b = c .before .before .args .byte in
-    c .both .ensures ∙ ap (λ (w : Bool). not (eqb b esc) gives not w or false) (c .before .within .ensures) ∙
+    c .both .ensures ∙ ap (λ (w : Bool). not (eqb b esc) gives not w or false) (c .before .between .ensures) ∙
     turned (eqb b esc) (between so si b)
 
 pub is-quiet-spec : {M : Type 1} → statement M

@@ -15,7 +15,7 @@ passes-spec =
     (λ c κs. search needs)
     (λ c. simp (
       c .either .ensures,
-      c .before .within .ensures,
+      c .before .between .ensures,
       c .before .before .both .ensures,
       c .before .before .before .is-quiet .ensures,
     )))

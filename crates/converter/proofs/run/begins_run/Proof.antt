@@ -13,11 +13,8 @@ pub begins-run-spec : {M : Type 1} → statement M
 begins-run-spec =
     tie.close
     (tie.spec
-    (λ c. search needs)
-    (λ c. never)
-    (λ c. search needs)
-    (λ c. search needs)
-    (λ c. never)
+    (λ c κs. search needs)
     (λ c. search needs)
     (λ c κs. search needs)
-    (λ c e. sym (c .in-one-byte .ensures) ∙ e))
+    (λ c e. sym (c .in-one-byte .ensures) ∙ e)
+    (λ c. never))

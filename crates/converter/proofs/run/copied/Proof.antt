@@ -12,6 +12,6 @@ copied-spec =
     (tie.spec
     (λ c κs. search needs)
     (λ c. search needs)
-    (λ c. search (tests, ← c .before .before .within .ensures, c .before .if1 .taken))
-    (λ c. search (tests, ← c .before .before .within .ensures, c .before .if1 .taken))
-    (λ c. simp (← c .before .within .ensures, c .if1 .left)))
+    (λ c. search (tests, ← c .before .before .between .ensures, c .before .if1 .taken))
+    (λ c. search (tests, ← c .before .before .between .ensures, c .before .if1 .taken))
+    (λ c. simp (← c .before .between .ensures, c .if1 .left)))

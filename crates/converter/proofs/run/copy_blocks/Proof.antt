@@ -11,8 +11,7 @@ use lib.Seq.{sets}
 use Rattle.paper.specs.declared.Form.{Form}
 use Rattle.lane.specs.Passing.{blockAhead}
 use Rattle.lane.proofs.EachPasses.{block-inside, block-passes-each}
-use Rattle.items.specs.declared.state.Single.{Single}
-use Rattle.items.specs.declared.state.State.{State}
+use Rattle.items.specs.States.{singleIn}
 use Rattle.converter.specs.Passing.{Passes}
 use Rattle.converter.specs.Runs.{copiedBytes, Copies}
 use Rattle.converter.proofs.RunsGoOn.{block-goes-on}
@@ -20,16 +19,16 @@ use Rattle.converter.proofs.run.copy_blocks.Statement.{statement}
 use Rattle.converter.proofs.run.copy_blocks.Tie as tie
 
 abbrev Inv-loop : tie.InvT-loop
-Inv-loop way text place buffer₀ at here₀ there₀ lane buffer here there =
+Inv-loop way text place buffer₀ at here₀ put₀ lane buffer here put =
     (place ≤ here) ×
     (here ≤ length text) ×
-    (there ≡ at + (here - place)) ×
+    (put ≡ at + (here - place)) ×
     (length buffer ≡ length buffer₀) ×
-    ((to : Form) (s : State) (lent : List ℕ) → Copies to s text way → Passes to text lent s Single.Not at place buffer₀ →
-    Passes to text lent s Single.Not there here buffer)
+    ((m to : Form) (cells : List ℕ) (shown : ℕ) (lent : List ℕ) → singleIn cells ≡ 0 → Copies m to cells shown text way →
+    Passes m to text lent cells shown at place buffer₀ → Passes m to text lent cells shown put here buffer)
 
 abbrev μ-loop : tie.MeasureT-loop
-μ-loop way text place buffer₀ at here₀ there₀ lane buffer here there = length text - here
+μ-loop way text place buffer₀ at here₀ put₀ lane buffer here put = length text - here
 
 -- the way back from a block
 abbrev looped : tie.Then1 Inv-loop μ-loop → tie.At-loop Inv-loop μ-loop
@@ -50,7 +49,7 @@ wrote : (c : tie.Joined2 Inv-loop μ-loop) →
     let l = looped (c .before) .loop in
     let a = called (c .before) .args in
     (length (c .if2 .buffer) ≡ length (l .buffer)) ×
-    (l .there + 16 ≤ length (l .buffer) → c .if2 .buffer ≡ sets (l .buffer) (l .there) (copiedBytes (a .way) (a .text .now) (l .here) 16))
+    (l .put + 16 ≤ length (l .buffer) → c .if2 .buffer ≡ sets (l .buffer) (l .put) (copiedBytes (a .way) (a .text .now) (l .here) 16))
 wrote c =
     let l = looped (c .before) .loop in
     ⊎-elim
@@ -59,7 +58,7 @@ wrote c =
     (c .if2 .came)
 
 loop-holds : tie.Need-loop-holds Inv-loop μ-loop
-loop-holds c = let pre = c .before .before .before .pre in (omega arith, pre .0, omega arith, refl, λ to s lent copies p. p)
+loop-holds c = let pre = c .before .before .before .pre in (omega arith, pre .0, omega arith, refl, λ m to cells shown lent ground copies p. p)
 
 block-ahead-requires : tie.Need-block-ahead-requires Inv-loop μ-loop
 block-ahead-requires c κs = search needs
@@ -73,8 +72,8 @@ copy-block-requires c κs = (inside (c .before .before), c .before .if2 .taken)
 add-here : tie.Need-add-here Inv-loop μ-loop
 add-here c = let h = inside (c .before) in let pre = called (c .before) .pre in omega arith
 
-add-there : tie.Need-add-there Inv-loop μ-loop
-add-there c = let pre = called (c .before) .pre in let l = looped (c .before) .loop .inv in omega arith
+add-put : tie.Need-add-put Inv-loop μ-loop
+add-put c = let pre = called (c .before) .pre in let l = looped (c .before) .loop .inv in omega arith
 
 loop-less : tie.Need-loop-less Inv-loop μ-loop
 loop-less c = let h = inside (c .before) in omega arith
@@ -89,9 +88,9 @@ loop-again c =
       h,
       omega arith,
       w .0 ∙ l .inv .3,
-      λ to s lent copies p.
-          let q = l .inv .4 to s lent copies p in
-          block-goes-on copies 16 h
+      λ m to cells shown lent ground copies p.
+          let q = l .inv .4 m to cells shown lent ground copies p in
+          block-goes-on copies ground 16 h
           (λ k. block-passes-each (a .way .lane) (a .text .now) (l .here) k (all-pass (c .before)))
           q (c .if2 .buffer) (w .0) (λ room. w .1 (omega (arith, q .passing .as-long))),
     )
@@ -104,8 +103,8 @@ returns c =
     let a = c .before .before .before .before .before .before .args in
     let l = c .before .before .loop in (
       (l .inv .0, l .inv .1),
-      λ to s lent copies p.
-          subst (λ (n : ℕ). Passes to (a .text .now) lent s Single.Not n (l .here) (l .buffer)) (l .inv .2) (l .inv .4 to s lent copies p),
+      λ m to cells shown lent ground copies p.
+          subst (λ (n : ℕ). Passes m to (a .text .now) lent cells shown n (l .here) (l .buffer)) (l .inv .2) (l .inv .4 m to cells shown lent ground copies p),
     )
 
 pub copy-blocks-spec : {M : Type 1} → statement M
@@ -119,7 +118,7 @@ copy-blocks-spec =
     add-if2
     copy-block-requires
     add-here
-    add-there
+    add-put
     loop-less
     loop-again
     same-length

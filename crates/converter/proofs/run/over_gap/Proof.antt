@@ -11,8 +11,8 @@ use lib.Seq.{sets}
 use Rattle.paper.specs.CodeTable.{bit8, so, si}
 use Rattle.paper.specs.Sets.{space}
 use Rattle.paper.specs.declared.Form.{Form}
-use Rattle.converter.specs.Runs.{gapLength, gapBytes}
-use Rattle.converter.proofs.GapsCopy.{SpaceAhead, seven-ahead, eight-ahead}
+use Rattle.converter.specs.Runs.{gapAhead, gapLength, gapBytes}
+use Rattle.converter.proofs.GapsCopy.{SpaceAhead, space-is-ahead, gap-inside}
 use Rattle.converter.proofs.run.over_gap.Statement.{statement}
 use Rattle.converter.proofs.run.over_gap.Tie as tie
 
@@ -34,7 +34,8 @@ four-stores l at a b c d = simp towards-suc
 ahead : (c : tie.After-enum-told) → let s = c .before .before .before .before in SpaceAhead (s .args .text .now) (s .args .place)
 ahead c =
     let s = c .before .before .before .before in
-    seven-ahead (s .args .to) (s .args .text .now) (s .args .place) (c .enum-told .given .1) (s .pre .0)
+    space-is-ahead (s .args .text .now) (s .args .place)
+    (ap (λ (m : Form). gapAhead m (s .args .text .now) (s .args .place)) (sym (c .enum-told .given .1)) ∙ s .pre .0)
 
 slice-write-buffer-2 : tie.Need-slice-write-buffer-2
 slice-write-buffer-2 c = simp length-set (omega arith)
@@ -61,8 +62,8 @@ add-t22 : tie.Need-add-t22
 add-t22 c =
     let t = c .before .before .before .before in
     let s = t .before .before .before .before in
-    let h = eight-ahead (s .args .to) (s .args .text .now) (s .args .place) (t .enum-told2 .given .1) (s .pre .0) .inside in
-    omega arith
+    let h = gap-inside (s .args .to) (s .args .text .now) (s .args .place) (s .pre .0) in
+    omega (arith, ap gapLength (t .enum-told2 .given .1))
 
 stored : (c : tie.Joined1) →
     let s = c .before .before .before .before .before .args in

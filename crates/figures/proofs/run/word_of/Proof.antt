@@ -1,6 +1,6 @@
 -- The tests are those of `wordIn`.
 use Rattle.paper.proofs.Tests.{tests}
-use Rattle.figures.specs.Runs.{wordIn}
+use Rattle.lane.specs.Lanes.{wordIn}
 use Rattle.figures.proofs.run.word_of.Statement.{statement}
 use Rattle.figures.proofs.run.word_of.Tie as tie
 

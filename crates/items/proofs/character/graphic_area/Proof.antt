@@ -1,7 +1,6 @@
--- An arm for each clause; on the ground the test is that of `graphicArea`.
+-- The tests are those of `graphicArea`.
 use Rattle.paper.proofs.Tests.{tests}
 use Rattle.items.specs.Items.{graphicArea}
-use borrow.Author.Needs.{needs}
 use Rattle.items.proofs.character.graphic_area.Statement.{statement}
 use Rattle.items.proofs.character.graphic_area.Tie as tie
 
@@ -10,10 +9,6 @@ unfolding graphicArea
 graphic-area-spec =
     tie.close
     (tie.spec
-    (λ c. search needs)
-    (λ c. search needs)
-    (λ c. search needs)
-    (λ c. search (tests, c .before .enum-told .given .1))
-    (λ c. search (tests, c .before .enum-told .given .1))
-    (λ c. simp (c .enum-told2 .given .1))
-    (λ c. simp (c .enum-told3 .given .1)))
+    (λ c. search tests)
+    (λ c. search tests)
+    (λ c. search tests))

@@ -15,20 +15,12 @@ later-byte-spec =
     (λ c κs. search needs)
     (λ c κs. search needs)
     (λ c κs. search needs)
-    (λ c κs. search needs)
-    (λ c κs. search needs)
-    (λ c. simp (
-      lt-leb _ _ (c .before .before .before .before .before .before .before .if1 .left),
-      ← c .before .before .before .before .before .other-than .ensures,
-      ← c .before .before .before .before .form-has .ensures,
-      c .before .before .before .if2 .taken,
-      c .before .before .byte-in .ensures,
-      c .before .position-in .ensures,
-      c .of-set .ensures,
+    (λ c. let formed = c .before .before in
+    simp (
+      lt-leb _ _ (formed .before .before .before .if1 .left),
+      ← formed .before .form-has .ensures,
+      formed .if2 .taken,
+      c .before .byte-in .ensures,
+      c .refusal-of-byte .ensures,
     ))
-    (λ c. simp (
-      lt-leb _ _ (c .before .before .before .before .if1 .left),
-      ← c .before .before .other-than .ensures,
-      ← c .before .form-has .ensures,
-      c .if2 .left,
-    )))
+    (λ c. simp (lt-leb _ _ (c .before .before .before .if1 .left), ← c .before .form-has .ensures, c .if2 .left)))

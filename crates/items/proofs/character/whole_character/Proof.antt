@@ -1,4 +1,4 @@
--- The bytes are those of `bytesAt`, or its refusal.
+-- An arm for each clause of `byCount`.
 use borrow.Author.Needs.{needs}
 use Rattle.items.proofs.character.whole_character.Statement.{statement}
 use Rattle.items.proofs.character.whole_character.Tie as tie
@@ -9,15 +9,41 @@ whole-character-spec =
     (tie.spec
     (λ c κs. search needs)
     (λ c κs. search needs)
+    (λ c κs. search needs)
     (λ c. search needs)
     (λ c κs. search needs)
     (λ c. search needs)
-    (λ c. let asked = c .before .before .before .before in
-    simp (
-      ← asked .before .position-in .ensures,
-      ← asked .position-bytes .ensures,
-      c .before .before .bytes .given .1,
-      c .character .ensures,
+    (λ c κs. search needs)
+    (λ c. search needs)
+    (λ c. search needs)
+    (λ c κs. search needs)
+    (λ c. search needs)
+    (λ c. search needs)
+    (λ c κs. search needs)
+    (λ c. let counted = c .before .before .before .before in (
+      simp (
+        ← counted .count-of .ensures,
+        c .before .before .enum-told .given .1,
+        ← counted .before .position-in .ensures,
+        ← c .before .one .ensures .1,
+      ) (c .character-of .ensures .0),
+      rw (c .character-of .ensures .1) (search needs),
     ))
-    (λ c. let asked = c .before .before .before in
-    simp (← asked .before .position-in .ensures, ← asked .position-bytes .ensures, c .before .refusal .given .1)))
+    (λ c. let counted = c .before .before .before in (
+      simp (
+        ← counted .count-of .ensures,
+        c .before .enum-told2 .given .1,
+        ← counted .before .position-in .ensures,
+        ← counted .before .before .kind-of .ensures,
+      ) (c .of-two .ensures .0),
+      c .of-two .ensures .1,
+    ))
+    (λ c. let counted = c .before .before .before in (
+      simp (
+        ← counted .count-of .ensures,
+        c .before .enum-told3 .given .1,
+        ← counted .before .position-in .ensures,
+        ← counted .before .before .kind-of .ensures,
+      ) (c .of-three .ensures .0),
+      c .of-three .ensures .1,
+    )))

@@ -1,5 +1,14 @@
--- An arm for each single shift, and for each area.
-use borrow.Author.Needs.{needs}
+-- In each half of the code table the controls are the first 32 bytes.
+use Prim.Native.Nat.{_%_}
+use mathlib.Core.Path.{_≡_}
+use native.Mathlib.Omega.{arith}
+use borrow.Author.Tests.{lt-ltb, le-ltb}
+use lib.Dec.{ltb}
+use Rattle.paper.specs.CodeTable.{bit8}
+use Rattle.paper.specs.Sets.{space}
+use Rattle.paper.specs.declared.Area.{Area}
+use Rattle.items.specs.Items.{isControl}
+use Rattle.items.proofs.AreasOfBytes.{area-by}
 use Rattle.items.proofs.item.is_control.Statement.{statement}
 use Rattle.items.proofs.item.is_control.Tie as tie
 
@@ -7,17 +16,7 @@ pub is-control-spec : {M : Type 1} → statement M
 is-control-spec =
     tie.close
     (tie.spec
-    (λ c. search needs)
-    (λ c κs. search needs)
-    (λ c. search needs)
-    (λ c. search needs)
-    (λ c. search needs)
-    (λ c. search needs)
-    (λ c. search needs)
-    (λ c. search needs)
-    (λ c. let asked = c .before .before in simp (asked .before .enum-told .given .1, ← asked .area-of .ensures, c .enum-told2 .given .1))
-    (λ c. let asked = c .before .before in simp (asked .before .enum-told .given .1, ← asked .area-of .ensures, c .enum-told3 .given .1))
-    (λ c. let asked = c .before .before in simp (asked .before .enum-told .given .1, ← asked .area-of .ensures, c .enum-told4 .given .1))
-    (λ c. let asked = c .before .before in simp (asked .before .enum-told .given .1, ← asked .area-of .ensures, c .enum-told5 .given .1))
-    (λ c. simp (c .enum-told6 .given .1))
-    (λ c. simp (c .enum-told7 .given .1)))
+    (λ c. let b = c .args .byte in
+    area-by (λ (a : Area). ltb (b % bit8) space ≡ isControl a) b (λ h. lt-ltb (b % bit8) space (omega arith))
+    (λ l h. le-ltb (b % bit8) space (omega arith)) (λ l h. lt-ltb (b % bit8) space (omega arith))
+    (λ l. le-ltb (b % bit8) space (omega arith))))

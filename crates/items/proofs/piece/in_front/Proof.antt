@@ -1,7 +1,10 @@
 -- The byte takes the lowest place, and the piece moves up by one.
-use borrow.Author.Needs.{needs}
+use Prim.Native.Nat.{_+_, _%_}
+use mathlib.Core.Path.{_≡_}
+use native.Mathlib.Omega.{arith}
 use Rattle.items.specs.Pieces.{bytesIn}
 use Rattle.items.proofs.BytesInANumber.{byte-in-front}
+use borrow.Author.Needs.{needs}
 use Rattle.items.proofs.piece.in_front.Statement.{statement}
 use Rattle.items.proofs.piece.in_front.Tie as tie
 
@@ -10,9 +13,13 @@ unfolding bytesIn
 in-front-spec =
     tie.close
     (tie.spec
+    (λ c κs. search needs)
     (λ c. search needs)
     (λ c. search needs)
-    (λ c. search needs)
-    (λ c.
-    let s = c .before .before in
-    (byte-in-front (s .args .piece .count) (s .args .piece .bytes) (s .args .byte) (s .fits .byte .fits), search needs, search needs)))
+    (λ c. let s = c .before .before in
+    let p = s .args .piece in (
+      simp (c .before .wrapping-add-usize .ensures),
+      λ few small. let count : c .before .wrapping-add-usize .result ≡ p .count + 1 = omega arith in
+          let same : p .bytes % 0x100000000000000 ≡ p .bytes = omega arith in
+          (rw (count, same) (byte-in-front (p .count) (p .bytes) (s .args .byte) (s .fits .byte .fits)), count, rw same),
+    )))

@@ -6,4 +6,7 @@ use Rattle.items.proofs.piece.nothing.Tie as tie
 
 pub nothing-spec : {M : Type 1} → statement M
 unfolding bytesIn
-nothing-spec = tie.close (tie.spec (λ c. refl))
+nothing-spec =
+    tie.close
+    (tie.spec
+    (λ c. (refl, refl, refl)))

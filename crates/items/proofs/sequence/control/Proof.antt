@@ -1,6 +1,6 @@
--- A byte of C1 is the C1 function of its number; any other byte is one of C0.
+-- The tests are those of `controlAt`.
+use mathlib.Core.Path.{_∙_}
 use borrow.Author.Tests.{le-leb, lt-leb, ne-eqb}
-use Rattle.paper.specs.CodeTable.{esc, bit8}
 use Rattle.items.specs.Items.{controlAt}
 use borrow.Author.Needs.{needs}
 use Rattle.items.proofs.sequence.control.Statement.{statement}
@@ -12,11 +12,26 @@ control-spec =
     tie.close
     (tie.spec
     (λ c κs. search needs)
-    (λ c. let start = c .before .before .before in
-    let b = start .args .byte in
-    simp (ne-eqb b esc (start .pre .2), le-leb bit8 b (c .before .if1 .taken), c .function-at .ensures b))
-    (λ c. search needs)
     (λ c κs. search needs)
-    (λ c. let start = c .before .before .before in
-    let b = start .args .byte in
-    simp (ne-eqb b esc (start .pre .2), lt-leb bit8 b (c .before .if1 .left), c .control-of-c0 .ensures)))
+    (λ c κs. search needs)
+    (λ c. let asked = c .before .before in (
+      c .meant .ensures .0 ∙
+          simp (le-leb _ _ (asked .before .if1 .taken), asked .effect-of-function .ensures, c .before .nothing .ensures .0),
+      c .meant .ensures .1,
+    ))
+    (λ c κs. search needs)
+    (λ c. (simp (c .before .if2 .taken) (c .shift .ensures .0), c .shift .ensures .1))
+    (λ c κs. search needs)
+    (λ c. (simp (c .before .if3 .taken) (c .shift2 .ensures .0), c .shift2 .ensures .1))
+    (λ c κs. search needs)
+    (λ c κs. search needs)
+    (λ c. let third = c .before .before in (
+      simp (
+        lt-leb _ _ (third .before .before .if1 .left),
+        ne-eqb _ _ (third .before .if2 .left),
+        ne-eqb _ _ (third .if3 .left),
+        c .before .plain .ensures,
+        c .one .ensures .1,
+      ),
+      search needs,
+    )))

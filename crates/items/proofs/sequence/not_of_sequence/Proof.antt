@@ -11,5 +11,6 @@ not-of-sequence-spec =
     (tie.spec
     (λ c κs. search needs)
     (λ c κs. search needs)
-    (λ c. simp (← c .before .before .other-than .ensures, ← c .before .form-has .ensures, c .if1 .taken))
-    (λ c. simp (← c .before .before .other-than .ensures, ← c .before .form-has .ensures, c .if1 .left)))
+    (λ c κs. search needs)
+    (λ c. (simp (← c .before .before .form-has .ensures, c .before .if1 .taken) (c .refused .ensures .0), c .refused .ensures .1))
+    (λ c. (simp (← c .before .before .form-has .ensures, c .before .if1 .left) (c .refused2 .ensures .0), c .refused2 .ensures .1)))

@@ -1,0 +1,4 @@
+pub mod Items
+pub mod Letters
+pub mod Pieces
+pub mod States
