@@ -4,8 +4,9 @@
        plain survey [7] < TEXT      what survey prints; with 7 the text is in 7-bit form
        plain convert 7|8 < TEXT     what convert prints; the text is in the other form
 
-   A reader takes one byte at a time, gives the answer's word and leaves what belongs to the answer in its struct. Final Bytes of
-   the sets and the number of bytes skipped are not kept, since neither program prints them. */
+   A reader takes one byte at a time and gives the answer's word; a writer takes the bytes of what was answered from the text. A
+   conversion reads its text once, writes into memory of its own as it goes, and copies that to the lent buffer where the text was
+   accepted. Final Bytes of the sets and the number of bytes skipped are not kept, since neither program prints them. */
 
 /* The kit has the C library but no headers of it; this is what is used. */
 typedef unsigned long size_t;
@@ -13,6 +14,7 @@ long read(int file, void *bytes, size_t count);
 long write(int file, const void *bytes, size_t count);
 int dprintf(int file, const char *format, ...);
 int strcmp(const char *left, const char *right);
+void *memcpy(void *to, const void *from, size_t count);
 
 enum { STANDARD_INPUT, STANDARD_OUTPUT, STANDARD_ERROR };
 
@@ -24,7 +26,7 @@ enum { LONGEST_TEXT = 65536, LONGEST_OUTPUT = 3 * LONGEST_TEXT };
 enum { SO = AT(0, 14), SI = AT(0, 15), ESC = AT(1, 11), SS2 = AT(8, 14), SS3 = AT(8, 15), BIT_8 = 0x80 };
 
 enum form { SEVEN, EIGHT };
-enum element { G0, G1, G2, G3, C0, C1 };
+enum element { G0, G1, G2, G3 };
 enum place { GROUND, IN_SEQUENCE, AFTER_SINGLE_SHIFT, IN_CHARACTER, LOST };
 
 /* 'Answer to one byte', in the paper's order. */
@@ -38,17 +40,15 @@ struct set {
 struct reader {
     enum form form;
     enum place place;
-    struct set sets[4];         /* of G0 to G3 */
-    enum element gl, gr;        /* the elements shown there */
-    enum element element;       /* of the character, or of the control */
-    unsigned char sequence[3];  /* the bytes after ESC */
-    unsigned char positions[3]; /* of the character */
-    unsigned char area;         /* bit 8 of the character's bytes */
-    unsigned char function;     /* the control's number */
-    int sequence_length;
-    int position_count;
-    int refusal;                /* the number, if the last answer was refused */
-    int matched;                /* by a lost reader: the bytes of the opening that have gone by */
+    struct set sets[4];             /* of G0 to G3 */
+    enum element gl, gr;            /* the elements shown there */
+    enum element element;           /* of the character */
+    unsigned char area;             /* bit 8 of the character's bytes */
+    int bytes_left;                 /* of the character */
+    unsigned char intermediates[2]; /* of the sequence */
+    int intermediate_count;
+    int refusal;                    /* the number, if the last answer was refused */
+    int matched;                    /* by a lost reader: the bytes of the opening that have gone by */
 };
 
 /* 'Code table and elements', Opening. */
@@ -92,12 +92,13 @@ static enum answer search(struct reader *reader, unsigned char byte)
     return INSTEP;
 }
 
-/* 'Answer to one byte': the search begins with the refused byte. */
+/* 'Answer to one byte': the search begins with the refused byte. 'Refusal numbers': a byte of 128 or more in 7-bit form, which is
+   refused in every place, is refused with 1 whatever else is wrong with it. */
 static enum answer refuse(struct reader *reader, unsigned char byte, int number)
 {
     reader->place = LOST;
     reader->matched = byte == ESC;
-    reader->refusal = number;
+    reader->refusal = byte >= AT(8, 0) && reader->form == SEVEN ? 1 : number;
     return REFUSED;
 }
 
@@ -123,19 +124,18 @@ static enum answer show_in_gr(struct reader *reader, enum element element)
 }
 
 /* Under 94 type 2/0 and 7/15 are no position bytes. */
-static bool no_position(struct set set, unsigned char byte)
+static bool no_position(const struct reader *reader, enum element element, unsigned char byte)
 {
     unsigned char position = byte & ~BIT_8;
-    return set.type == 94 && (position == AT(2, 0) || position == AT(7, 15));
+    return reader->sets[element].type == 94 && (position == AT(2, 0) || position == AT(7, 15));
 }
 
 static enum answer first_byte(struct reader *reader, enum element element, unsigned char byte)
 {
     reader->element = element;
-    reader->positions[0] = byte & ~BIT_8;
-    reader->position_count = 1;
     if (reader->sets[element].bytes == 1)
         return CHARACTER;
+    reader->bytes_left = reader->sets[element].bytes - 1;
     reader->area = byte & BIT_8;
     reader->place = IN_CHARACTER;
     return NOTHING_YET;
@@ -143,13 +143,11 @@ static enum answer first_byte(struct reader *reader, enum element element, unsig
 
 static enum answer in_character(struct reader *reader, unsigned char byte)
 {
-    struct set set = reader->sets[reader->element];
     if ((byte & BIT_8) != reader->area || (byte & ~BIT_8) < AT(2, 0))
         return refuse(reader, byte, 6);
-    if (no_position(set, byte))
+    if (no_position(reader, reader->element, byte))
         return refuse(reader, byte, 5);
-    reader->positions[reader->position_count++] = byte & ~BIT_8;
-    if (reader->position_count < set.bytes)
+    if (--reader->bytes_left > 0)
         return NOTHING_YET;
     reader->place = GROUND;
     return CHARACTER;
@@ -159,7 +157,7 @@ static enum answer after_single_shift(struct reader *reader, unsigned char byte)
 {
     if (byte < AT(2, 0) || byte > AT(7, 15))
         return refuse(reader, byte, 6);
-    if (no_position(reader->sets[reader->element], byte))
+    if (no_position(reader, reader->element, byte))
         return refuse(reader, byte, 5);
     reader->place = GROUND;
     return first_byte(reader, reader->element, byte);
@@ -167,23 +165,16 @@ static enum answer after_single_shift(struct reader *reader, unsigned char byte)
 
 static enum answer gl_byte(struct reader *reader, unsigned char byte)
 {
-    if (no_position(reader->sets[reader->gl], byte))
+    if (no_position(reader, reader->gl, byte))
         return byte == AT(2, 0) ? SPACE : DELETE;
     return first_byte(reader, reader->gl, byte);
 }
 
 static enum answer gr_byte(struct reader *reader, unsigned char byte)
 {
-    if (no_position(reader->sets[reader->gr], byte))
+    if (no_position(reader, reader->gr, byte))
         return refuse(reader, byte, 5);
     return first_byte(reader, reader->gr, byte);
-}
-
-static enum answer control(struct reader *reader, enum element element, unsigned char function)
-{
-    reader->element = element;
-    reader->function = function;
-    return CONTROL;
 }
 
 static enum answer c0_byte(struct reader *reader, unsigned char byte)
@@ -195,10 +186,10 @@ static enum answer c0_byte(struct reader *reader, unsigned char byte)
         return show_in_gl(reader, G0);
     case ESC:
         reader->place = IN_SEQUENCE;
-        reader->sequence_length = 0;
+        reader->intermediate_count = 0;
         return NOTHING_YET;
     default:
-        return control(reader, C0, byte);
+        return CONTROL;
     }
 }
 
@@ -210,19 +201,8 @@ static enum answer c1_byte(struct reader *reader, unsigned char byte)
     case SS3:
         return single_shift(reader, G3);
     default:
-        return control(reader, C1, byte - AT(8, 0));
+        return CONTROL;
     }
-}
-
-static enum answer on_ground(struct reader *reader, unsigned char byte)
-{
-    if (byte < AT(2, 0))
-        return c0_byte(reader, byte);
-    if (byte < AT(8, 0))
-        return gl_byte(reader, byte);
-    if (byte < AT(10, 0))
-        return c1_byte(reader, byte);
-    return gr_byte(reader, byte);
 }
 
 /* 'Escape sequences'. */
@@ -300,17 +280,14 @@ static enum answer with_two_intermediates(struct reader *reader, const unsigned 
 
 static enum answer final_byte(struct reader *reader, unsigned char final)
 {
-    const unsigned char *intermediates = reader->sequence;
-    int count = reader->sequence_length;
-    reader->sequence[reader->sequence_length++] = final;
     reader->place = GROUND;
-    switch (count) {
+    switch (reader->intermediate_count) {
     case 0:
         return without_intermediate(reader, final);
     case 1:
-        return with_one_intermediate(reader, intermediates[0], final);
+        return with_one_intermediate(reader, reader->intermediates[0], final);
     default:
-        return with_two_intermediates(reader, intermediates, final);
+        return with_two_intermediates(reader, reader->intermediates, final);
     }
 }
 
@@ -320,20 +297,16 @@ static enum answer in_sequence(struct reader *reader, unsigned char byte)
         return refuse(reader, byte, 2);
     if (byte >= AT(3, 0))
         return final_byte(reader, byte);
-    if (reader->sequence_length == 2)
+    if (reader->intermediate_count == 2)
         return refuse(reader, byte, 3);
-    reader->sequence[reader->sequence_length++] = byte;
+    reader->intermediates[reader->intermediate_count++] = byte;
     return NOTHING_YET;
 }
 
 /* 'Answer to one byte'. */
 
-static enum answer answer_to(struct reader *reader, unsigned char byte)
+static enum answer off_ground(struct reader *reader, unsigned char byte)
 {
-    if (byte >= AT(8, 0) && reader->form == SEVEN && reader->place != LOST)
-        return refuse(reader, byte, 1);
-    if (reader->place == GROUND)
-        return on_ground(reader, byte);
     switch (reader->place) {
     case IN_SEQUENCE:
         return in_sequence(reader, byte);
@@ -344,6 +317,22 @@ static enum answer answer_to(struct reader *reader, unsigned char byte)
     default:
         return search(reader, byte);
     }
+}
+
+/* Most bytes are read on the ground. This is compiled into the loops that call it, off_ground is not. */
+[[gnu::always_inline]] static inline enum answer answer_to(struct reader *reader, unsigned char byte)
+{
+    if (reader->place != GROUND)
+        return off_ground(reader, byte);
+    if (byte < AT(2, 0))
+        return c0_byte(reader, byte);
+    if (byte < AT(8, 0))
+        return gl_byte(reader, byte);
+    if (reader->form == SEVEN)
+        return refuse(reader, byte, 1);
+    if (byte < AT(10, 0))
+        return c1_byte(reader, byte);
+    return gr_byte(reader, byte);
 }
 
 static const char *end_word(enum place place)
@@ -358,27 +347,27 @@ static const char *end_word(enum place place)
     }
 }
 
-/* 'The two written forms'. */
+/* 'The two written forms'. A writer is given an answer and where in the text its last byte stands, with the others before it. */
 
 struct writer {
     enum form form;
-    enum element gl;       /* the element that GL shows in the output */
-    unsigned char *output; /* none where bytes are only counted */
-    size_t length;
+    enum element gl;    /* the element that GL shows in the output */
+    unsigned char *end; /* of the output */
 };
 
 static void put(struct writer *writer, unsigned char byte)
 {
-    if (writer->output)
-        writer->output[writer->length] = byte;
-    writer->length++;
+    *writer->end++ = byte;
 }
 
-static void put_sequence(struct writer *writer, const unsigned char *after_esc, int count)
+static void put_sequence(struct writer *writer, const struct reader *reader, const unsigned char *final)
 {
     put(writer, ESC);
-    for (int i = 0; i < count; i++)
-        put(writer, after_esc[i]);
+    if (reader->intermediate_count > 1)
+        put(writer, final[-2]);
+    if (reader->intermediate_count > 0)
+        put(writer, final[-1]);
+    put(writer, *final);
 }
 
 static void put_c1(struct writer *writer, unsigned char function)
@@ -391,13 +380,24 @@ static void put_c1(struct writer *writer, unsigned char function)
     }
 }
 
-static void put_designation(struct writer *writer, const struct reader *reader)
+/* Of a C1 function the last byte is its own, 8/0 to 9/15, or the final that stands for it, 4/0 to 5/15. */
+static void put_control(struct writer *writer, unsigned char last)
 {
-    const unsigned char *sequence = reader->sequence;
-    if (reader->sequence_length == 3 && sequence[1] == AT(2, 8) && has_short_sequence(sequence[2]))
-        put_sequence(writer, (const unsigned char[]){AT(2, 4), sequence[2]}, 2);
+    if (last < AT(2, 0))
+        put(writer, last);
     else
-        put_sequence(writer, sequence, reader->sequence_length);
+        put_c1(writer, last & 31);
+}
+
+static void put_designation(struct writer *writer, const struct reader *reader, const unsigned char *final)
+{
+    if (reader->intermediate_count == 2 && final[-1] == AT(2, 8) && has_short_sequence(*final)) {
+        put(writer, ESC);
+        put(writer, AT(2, 4));
+        put(writer, *final);
+    } else {
+        put_sequence(writer, reader, final);
+    }
 }
 
 /* SI or SO before what the 7-bit form takes from G0 or G1. */
@@ -409,24 +409,22 @@ static void show(struct writer *writer, enum element element)
     }
 }
 
-static void put_character(struct writer *writer, const struct reader *reader)
+static void put_character(struct writer *writer, const struct reader *reader, const unsigned char *last)
 {
+    enum element element = reader->element;
+    int bytes = reader->sets[element].bytes;
     unsigned char area = 0;
-    switch (reader->element) {
-    case G2:
-        put_c1(writer, SS2 - AT(8, 0));
-        break;
-    case G3:
-        put_c1(writer, SS3 - AT(8, 0));
-        break;
-    default:
-        if (writer->form == SEVEN)
-            show(writer, reader->element);
-        else if (reader->element == G1)
-            area = BIT_8;
-    }
-    for (int i = 0; i < reader->position_count; i++)
-        put(writer, reader->positions[i] | area);
+    if (element == G2 || element == G3)
+        put_c1(writer, (element == G2 ? SS2 : SS3) - AT(8, 0));
+    else if (writer->form == SEVEN)
+        show(writer, element);
+    else if (element == G1)
+        area = BIT_8;
+    if (bytes > 2)
+        put(writer, (last[-2] & ~BIT_8) | area);
+    if (bytes > 1)
+        put(writer, (last[-1] & ~BIT_8) | area);
+    put(writer, (*last & ~BIT_8) | area);
 }
 
 /* The writer has designated the same sets as the reader. In 8-bit form GL shows G0 throughout, which is of 94 type. */
@@ -437,11 +435,11 @@ static void put_space_or_delete(struct writer *writer, const struct reader *read
     put(writer, byte);
 }
 
-static void put_answer(struct writer *writer, const struct reader *reader, enum answer answer)
+static void put_answer(struct writer *writer, const struct reader *reader, enum answer answer, const unsigned char *last)
 {
     switch (answer) {
     case CHARACTER:
-        put_character(writer, reader);
+        put_character(writer, reader, last);
         break;
     case SPACE:
         put_space_or_delete(writer, reader, AT(2, 0));
@@ -450,16 +448,13 @@ static void put_answer(struct writer *writer, const struct reader *reader, enum 
         put_space_or_delete(writer, reader, AT(7, 15));
         break;
     case CONTROL:
-        if (reader->element == C1)
-            put_c1(writer, reader->function);
-        else
-            put(writer, reader->function);
+        put_control(writer, *last);
         break;
     case DESIGNATE:
-        put_designation(writer, reader);
+        put_designation(writer, reader, last);
         break;
     case OTHER:
-        put_sequence(writer, reader->sequence, reader->sequence_length);
+        put_sequence(writer, reader, last);
         break;
     default:
         break;
@@ -479,34 +474,37 @@ static struct converted refused(int number, size_t place)
     return (struct converted){.refusal = number, .place = place};
 }
 
-/* Reads a text to its first refusal or its end; without an output its bytes are only counted. */
-static struct converted pass(enum form form, const unsigned char *text, size_t length, unsigned char *output)
+/* The conversion's own memory: a text that is refused in the end must have changed nothing of the lent buffer. */
+static unsigned char draft[LONGEST_OUTPUT];
+
+/* Writes the draft, to the text's first refusal or its end. */
+static struct converted write_draft(enum form form, const unsigned char *text, size_t length)
 {
-    struct writer writer = {.form = form, .gl = G0, .output = output};
+    struct writer writer = {.form = form, .gl = G0, .end = draft};
     struct reader reader;
     start(&reader, form == SEVEN ? EIGHT : SEVEN);
     for (size_t i = 0; i < length; i++) {
         enum answer answer = answer_to(&reader, text[i]);
         if (answer == REFUSED)
             return refused(reader.refusal, i);
-        put_answer(&writer, &reader, answer);
+        put_answer(&writer, &reader, answer, text + i);
     }
     if (reader.place != GROUND)
         return refused(7, length);
-    return (struct converted){.length = writer.length};
+    return (struct converted){.length = writer.end - draft};
 }
 
-/* A first pass checks and counts, so that a text that is refused has written nothing. */
 static struct converted convert(enum form form, const unsigned char *text, size_t length, unsigned char *output, size_t room)
 {
     if (length > LONGEST_TEXT)
         return refused(8, 0);
-    struct converted counted = pass(form, text, length, nullptr);
-    if (counted.refusal)
-        return counted;
-    if (counted.length > room)
+    struct converted converted = write_draft(form, text, length);
+    if (converted.refusal)
+        return converted;
+    if (converted.length > room)
         return refused(9, 0);
-    return pass(form, text, length, output);
+    memcpy(output, draft, converted.length);
+    return converted;
 }
 
 /* What a text has. */
