@@ -7,7 +7,14 @@ use Rattle.lane.proofs.has_gaps.Tie as tie
 
 returns : tie.Need-returns
 unfolding hasGaps
-returns c = search (tests, ← c .before .before .before .before .before .left .ensures, c .before .before .size-in .ensures, c .before .kind-of .ensures, c .is-of-94 .ensures)
+returns c =
+    search (
+      tests,
+      ← c .before .before .before .before .before .left .ensures,
+      c .before .before .size-in .ensures,
+      c .before .kind-of .ensures,
+      c .is-of-94 .ensures,
+    )
 
 returns-2 : tie.Need-returns-2
 unfolding hasGaps

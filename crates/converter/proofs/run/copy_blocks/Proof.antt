@@ -104,7 +104,8 @@ returns c =
     let l = c .before .before .loop in (
       (l .inv .0, l .inv .1),
       λ m to cells shown lent ground copies p.
-          subst (λ (n : ℕ). Passes m to (a .text .now) lent cells shown n (l .here) (l .buffer)) (l .inv .2) (l .inv .4 m to cells shown lent ground copies p),
+          subst (λ (n : ℕ). Passes m to (a .text .now) lent cells shown n (l .here) (l .buffer)) (l .inv .2)
+          (l .inv .4 m to cells shown lent ground copies p),
     )
 
 pub copy-blocks-spec : {M : Type 1} → statement M
