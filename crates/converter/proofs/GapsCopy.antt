@@ -16,16 +16,15 @@ use Rattle.paper.specs.declared.Form.{Form}
 use Rattle.paper.specs.declared.Element.{Element}
 use Rattle.paper.proofs.Choices.{impossible, gives-by, between-bounds}
 use Rattle.charsets.specs.Sizes.{kindOf, isOne}
-use Rattle.escapes.specs.Effects.{showsInGL, plain}
 use Rattle.items.specs.States.{singleIn, leftIn, rightIn, sizeIn, elementOf}
 use Rattle.items.specs.Items.{shifts}
 use Rattle.items.specs.Letters.{isLetter}
-use Rattle.items.proofs.ItemsOfBytes.{eight-has, Letter, letter-is, position-item, space-item}
+use Rattle.items.proofs.ItemsOfBytes.{eight-has, letter-is, position-item, space-item}
 use Rattle.lane.proofs.EachPasses.{both-true}
 use Rattle.lane.proofs.LaneItems.{shown-in-gr, spaceItem}
-use Rattle.lane.proofs.GapItems.{Ahead, gap-is, GapItems, gap-items, afterIn, afterSpace, afterOut}
+use Rattle.lane.proofs.GapItems.{gap-is, GapItems, gap-items, afterIn, afterSpace}
 use Rattle.converter.specs.Passing.{Passes}
-use Rattle.converter.specs.Writing.{alone, shiftedTo, inSeven, spaceIn, writes}
+use Rattle.converter.specs.Writing.{shiftedTo, inSeven, writes}
 use Rattle.converter.specs.Runs.{gapInSeven, hasGaps, spaceAhead, gapAhead, gapLength, gapBytes, inOneByte}
 use Rattle.converter.proofs.PassByItems.{item-goes-on}
 use Rattle.converter.proofs.RunsGoOn.{sets-more, same-passes, plain-goes-on}

@@ -11,7 +11,6 @@ use Rattle.paper.specs.Starting.{started}
 use Rattle.paper.specs.Sets.{setIn}
 use Rattle.paper.specs.Answering.{answerTo}
 use Rattle.paper.specs.Results.{elementNumber, positionValues, wordOf, charWord, controlWord, refusedWord}
-use Rattle.paper.specs.Refusals.{numberOf}
 use Rattle.paper.specs.WrittenForms.{Locking, none, shiftIn, shiftOut, Writer, glWith, locking, writtenFor, writerAfter}
 use Rattle.paper.specs.Conversions.{refusalAtEnd, refusalIn}
 use Rattle.paper.specs.declared.Form.{Form}
@@ -24,7 +23,6 @@ use Rattle.paper.specs.declared.Refusal.{Refusal}
 use Rattle.paper.specs.declared.Answer.{Answer}
 use Rattle.paper.specs.declared.Answered.{Answered}
 use Rattle.paper.specs.declared.Sets.{Sets}
-use Rattle.paper.specs.declared.FirstRefusal.{FirstRefusal}
 use Rattle.paper.specs.declared.FirstRefusal.the-variants.{First}
 use Rattle.paper.proofs.Choices.{impossible}
 use Rattle.paper.proofs.OutputWithin.{output-within}
@@ -32,13 +30,13 @@ use Rattle.refusals.specs.ByNumber.{refusalOf}
 use Rattle.refusals.proofs.RefusalsByNumber.{refusal-kept}
 use Rattle.charsets.specs.Sizes.{kindOf}
 use Rattle.items.specs.Pieces.{bytesIn, Small}
-use Rattle.items.specs.States.{sizeIn, changed, startingCells, Stands}
+use Rattle.items.specs.States.{sizeIn, changed, startingCells}
 use Rattle.items.specs.States as states
-use Rattle.items.specs.Items.{Item, itemOf, refused, itemAt}
+use Rattle.items.specs.Items.{Item, itemAt}
 use Rattle.items.specs.declared.item.Item as declared
 use Rattle.items.proofs.BytesInANumber.{length-of-bytes}
 use Rattle.items.proofs.CharactersGoOn.{kind-in}
-use Rattle.items.proofs.ItemsByBytes.{WaitsOn, NoRefusal, saidBytes, LastByte, Stopped, refused-at, ends-inside-at, Good, good-reads, good-stops}
+use Rattle.items.proofs.ItemsByBytes.{WaitsOn, saidBytes, LastByte, Stopped, refused-at, ends-inside-at, Good, good-reads, good-stops}
 use Rattle.items.proofs.ItemsGoOn.{items-go-on}
 use Rattle.converter.specs.Passing.{beside, restFrom, Passing, OfTwo, Passes}
 use Rattle.converter.specs.Writing.{Wrote, writes, Writable}

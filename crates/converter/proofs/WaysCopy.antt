@@ -9,7 +9,7 @@ use native.Mathlib.Omega.{arith}
 use borrow.Author.Tests.{ltb-true, ltb-false, eqb-true, eqb-false, lt-ltb, le-ltb, lt-leb}
 use lib.Dec.{ltb, leb, eqb}
 use lib.ListN.{length, getD}
-use Rattle.paper.specs.Choice.{_gives_or_, between}
+use Rattle.paper.specs.Choice.{between}
 use Rattle.paper.specs.CodeTable.{formHas, bit8}
 use Rattle.paper.specs.Sets.{space, delete}
 use Rattle.paper.specs.Results.{elementNumber, charWord, spaceWord, controlWord}

@@ -1,6 +1,6 @@
 -- What is written for an item is what the paper writes for the answer that the item says, by the answer.
 use Prim.Native.Nat.{ℕ, _+_, _-_, _%_, _<_}
-use mathlib.Core.Path.{_≡_, refl, sym, ap, _∙_}
+use mathlib.Core.Path.{_≡_, refl, ap, _∙_}
 use mathlib.Core.List.{List, [], _∷_, _++_, map}
 use native.Mathlib.Omega.{arith}
 use borrow.Author.Tests.{lt-ltb, le-ltb}
@@ -20,7 +20,7 @@ use Rattle.charsets.specs.Sizes.{kindOf}
 use Rattle.escapes.specs.declared.effect.Effect.{Effect}
 use Rattle.items.specs.States.{sizeIn}
 use Rattle.items.proofs.ItemsByBytes.{saidBytes, Said}
-use Rattle.converter.specs.Writing.{Wrote, alone, shiftedTo, inSeven, inEight, underKind, spaceIn, controlIn, writes}
+use Rattle.converter.specs.Writing.{alone, shiftedTo, inSeven, inEight, underKind, controlIn, writes}
 
 -- bytes of GL are position bytes
 of-gl : (l : List ℕ) → l ≡ map (byteFrom GraphicArea.GL) l
@@ -85,7 +85,7 @@ module _ (w : Writer) (cells : List ℕ) (kinds : kindOf (sizeIn cells (elementN
       (elementNumber (glWith (beforeCharacter e (w .gl)) (w .gl)))) (of-gl (positionValues p)))
   in-seven Answer.Space word are said = rw (word, are, kinds) (under-kind (setIn (w .sets) (w .gl) .kind) (w .gl) _)
   in-seven Answer.Delete word are said = rw (word, are, kinds) (under-kind (setIn (w .sets) (w .gl) .kind) (w .gl) _)
-  in-seven (Answer.Control ControlElement.C0 f n) word are said = rw (word, are) (control-of-c0 Form.Seven n (elementNumber (w .gl)) said)
+  in-seven (Answer.Control ControlElement.C0 f n) word are said = rw (word, are) (control-of-c0 Form.Seven n (elementNumber (w .gl)) (said .1))
   in-seven (Answer.Control ControlElement.C1 f n) word are said = rw (word, are) (function-in-seven n (elementNumber (w .gl)))
   in-seven (Answer.DesignateControls v f) word are said = rw (word, are)
   in-seven (Answer.Designate e s) word are said = rw (word, are)

@@ -8,7 +8,7 @@ use lib.Dec.{ltb, leb, eqb}
 use lib.ListN.{length, getD}
 use Rattle.paper.specs.Choice.{_gives_or_, between}
 use Rattle.paper.specs.CodeTable.{bit8, so, si}
-use Rattle.paper.specs.Sets.{space, delete}
+use Rattle.paper.specs.Sets.{space}
 use Rattle.paper.specs.Results.{elementNumber, refusedWord}
 use Rattle.paper.specs.declared.Form.{Form}
 use Rattle.paper.specs.declared.Kind.{Kind}
@@ -20,7 +20,7 @@ use Rattle.items.specs.States.{leftIn, rightIn, sizeIn, elementOf}
 use Rattle.items.specs.Items.{itemAt}
 use Rattle.items.specs.Letters.{isLetter}
 use Rattle.lane.specs.Passing.{passes}
-use Rattle.lane.specs.Lanes.{firstPosition, lastPosition, plainTo, positionsOf}
+use Rattle.lane.specs.Lanes.{firstPosition, lastPosition, firstOfNone, lastOfNone, plainTo, positionsOf}
 use Rattle.lane.specs.Gaps as lane
 use Rattle.converter.specs.Writing.{alone, writes}
 use Rattle.converter.specs.declared.run.Way.{Way}
@@ -28,7 +28,7 @@ use Rattle.converter.specs.declared.run.Run.{Run}
 
 -- bytes of GL as they are; no byte stands within the bounds
 abbrev pub lowAsItIs : Way
-lowAsItIs = record { lane = plainTo (delete - 1); first = 1; last = 0 }
+lowAsItIs = record { lane = plainTo (lastPosition Kind.Of94); first = firstOfNone; last = lastOfNone }
 
 -- positions of a set in GL are written in GR, and those of one in GR are written in GL
 abbrev pub lowRaised : Kind → Way
@@ -88,7 +88,7 @@ hasGaps Form.Eight cells b = lane.hasGaps cells
 unfoldable pub spaceAhead : List ℕ → ℕ → Bool
 spaceAhead text place =
     leb (place + 2) (length text) gives
-    (eqb (getD text place 0) space gives between (bit8 + space + 1) (bit8 + delete - 1) (getD text (place + 1) 0) or false) or
+    (eqb (getD text place 0) space gives between (bit8 + firstPosition Kind.Of94) (bit8 + lastPosition Kind.Of94) (getD text (place + 1) 0) or false) or
     false
 
 abbrev pub gapAhead : Form → List ℕ → ℕ → Bool

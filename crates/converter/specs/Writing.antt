@@ -65,7 +65,7 @@ abbrev pub spaceIn : Form → ℕ → List ℕ → List ℕ → Wrote
 spaceIn Form.Seven shown cells bytes = underKind (kindOf (sizeIn cells shown)) shown bytes
 spaceIn Form.Eight shown cells bytes = alone bytes shown
 
--- a control by its byte in 8-bit form: in 7-bit form a C1 function is ESC Fe
+-- a control by its byte in 8-bit form: in 7-bit form a C1 function is ESC Fe, and Fe stands four columns before that byte
 unfoldable pub controlIn : Form → ℕ → List ℕ → Wrote
 controlIn Form.Seven shown bytes =
     ltb (getD bytes 0 0) bit8 gives alone bytes shown or alone (esc ∷ (getD bytes 0 0 - finalOfFunction) ∷ []) shown

@@ -1,19 +1,15 @@
 // Writes pieces into a lent buffer.
+use items::piece::FIFTH;
+use items::piece::FOURTH;
 use items::piece::Piece;
 use items::piece::SECOND;
+use items::piece::THIRD;
 ghost use Prim.Native.Nat.{_+_, _*_, _≤_, _<_};
 ghost use mathlib.Core.Path.{_≡_};
 ghost use lib.ListN.{length, set};
 ghost use lib.Seq.{sets};
 ghost use Rattle.paper.specs.Refusals.{longestText};
 ghost use Rattle.items.specs.Pieces.{bytesIn};
-
-// The third, fourth and fifth place of a piece's number.
-pub(crate) const THIRD: u64 = 0x10000;
-
-const FOURTH: u64 = 0x1000000;
-
-const FIFTH: u64 = 0x100000000;
 
 // Writes a piece from a place of the buffer on.
 fn put(buffer: &mut [u8], at: usize, piece: Piece)

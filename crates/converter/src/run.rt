@@ -374,7 +374,7 @@ fn in_one_byte(to: Form, shown: ElementNumber, element: ElementNumber, byte: u8)
     }
 }
 
-// Whether a run begins with the letter at a place, of an element: it is written in one byte, and no control or space follows.
+// Whether a run begins with the letter at a place, of an element: it is written in one byte, and a byte above SPACE follows.
 pub(crate) fn begins_run(
     to: Form,
     element: ElementNumber,

@@ -1,5 +1,4 @@
 // What is written for an item: the paper's two written forms, as pieces of output.
-use crate::put::THIRD;
 use charsets::kind_of;
 use codetable::BIT_8;
 use codetable::ESC;
@@ -19,6 +18,7 @@ use escapes::effect::G2;
 use escapes::effect::SPACE_WORD;
 use items::piece::Piece;
 use items::piece::SECOND;
+use items::piece::THIRD;
 use items::piece::in_front;
 use items::piece::one;
 use items::state::CELLS;
@@ -44,8 +44,8 @@ const SS2: u8 = BIT_8 + SINGLE_SHIFT_TWO;
 
 const SS3: u8 = BIT_8 + SINGLE_SHIFT_THREE;
 
-// Bit 8 of a byte.
-const EIGHTH: u64 = 0x80;
+// Bit 8 of the lowest byte of a number.
+const BIT_8_IN_A_NUMBER: u64 = BIT_8 as u64;
 
 // A piece, and what GL shows in the output after it.
 pub(crate) struct Written {
@@ -66,7 +66,7 @@ fn as_written(piece: Piece, shown: ElementNumber) -> Written
 fn raised(bytes: u64) -> u64
     ensures { λ r. ⌜ r ≡ bit8 + bytes % bit8 ⌝ }
 {
-    EIGHTH + bytes % EIGHTH
+    BIT_8_IN_A_NUMBER + bytes % BIT_8_IN_A_NUMBER
 }
 
 // One, two or three position bytes as bytes of GR.

@@ -1,4 +1,4 @@
-// What an escape sequence means: the paper's table, a row to a line, as what the sequence does. Its meaning is had from that.
+// What an escape sequence means: the paper's table, a row to a line, as what the sequence does. Its meaning is made from that.
 pub mod effect;
 
 use charsets::OF_94;
@@ -68,56 +68,56 @@ pub const SINGLE_SHIFT_THREE: u8 = 15;
 pub const FINAL_OF_FUNCTION: u8 = 0x40;
 
 // The intermediates of control sets, and the one that leads to sets of several bytes.
-pub const OF_C0: u8 = 0x21;
+const OF_C0: u8 = 0x21;
 
-pub const OF_C1: u8 = 0x22;
+const OF_C1: u8 = 0x22;
 
 pub const SEVERAL: u8 = 0x24;
 
 // The seven intermediates that designate a graphic set.
 pub const OF_94_INTO_G0: u8 = 0x28;
 
-pub const OF_94_INTO_G1: u8 = 0x29;
+const OF_94_INTO_G1: u8 = 0x29;
 
-pub const OF_94_INTO_G2: u8 = 0x2A;
+const OF_94_INTO_G2: u8 = 0x2A;
 
-pub const OF_94_INTO_G3: u8 = 0x2B;
+const OF_94_INTO_G3: u8 = 0x2B;
 
-pub const OF_96_INTO_G1: u8 = 0x2D;
+const OF_96_INTO_G1: u8 = 0x2D;
 
-pub const OF_96_INTO_G2: u8 = 0x2E;
+const OF_96_INTO_G2: u8 = 0x2E;
 
-pub const OF_96_INTO_G3: u8 = 0x2F;
+const OF_96_INTO_G3: u8 = 0x2F;
 
 // The intermediates of other sequences.
-pub const OTHER_BY_SPACE: u8 = 0x20;
+const OTHER_BY_SPACE: u8 = 0x20;
 
-pub const OTHER_BY_NUMBER_SIGN: u8 = 0x23;
+const OTHER_BY_NUMBER_SIGN: u8 = 0x23;
 
-pub const OTHER_BY_AMPERSAND: u8 = 0x26;
+const OTHER_BY_AMPERSAND: u8 = 0x26;
 
 // The finals of the shifts that have no other form.
-pub const FINAL_OF_LS2: u8 = 0x6E;
+const FINAL_OF_LS2: u8 = 0x6E;
 
-pub const FINAL_OF_LS3: u8 = 0x6F;
+const FINAL_OF_LS3: u8 = 0x6F;
 
-pub const FINAL_OF_LS1R: u8 = 0x7E;
+const FINAL_OF_LS1R: u8 = 0x7E;
 
-pub const FINAL_OF_LS2R: u8 = 0x7D;
+const FINAL_OF_LS2R: u8 = 0x7D;
 
-pub const FINAL_OF_LS3R: u8 = 0x7C;
+const FINAL_OF_LS3R: u8 = 0x7C;
 
 // Finals by columns: before column 4; columns 4 and 5, of sets of two bytes and, with no intermediate, of C1 functions; column 6, of
 // sets of three bytes, from which on, with no intermediate, a final is of a shift or other.
 const LAST_BEFORE_FUNCTIONS: u8 = 0x3F;
 
-pub const FIRST_OF_TWO: u8 = 0x40;
+const FIRST_OF_TWO: u8 = 0x40;
 
-pub const LAST_OF_TWO: u8 = 0x5F;
+const LAST_OF_TWO: u8 = 0x5F;
 
 const FIRST_OF_THREE: u8 = 0x60;
 
-pub const LAST_OF_THREE: u8 = 0x6F;
+const LAST_OF_THREE: u8 = 0x6F;
 
 // The Final Bytes that take the short sequence.
 pub const FIRST_SHORT: u8 = 0x40;

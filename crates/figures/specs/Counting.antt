@@ -33,7 +33,7 @@ upTo bound text place (suc n) = upTo bound text place n + (leb (getD text (place
 pub record Fits (text counts : List ℕ) (place : ℕ) : Type 0 where
   pub short : length text ≤ longestText
   pub within : place ≤ length text
-  pub words : length counts ≡ 11
+  pub words : length counts ≡ instepWord + 1
   pub bounded : (w : ℕ) → getD counts w 0 ≤ place
 
 -- the words that have a figure are all but two

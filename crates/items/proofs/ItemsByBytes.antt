@@ -49,14 +49,14 @@ saidBytes (Answer.Refused n) = bytesOfAnswer Form.Eight (Answer.Refused n)
 saidBytes Answer.Skipped = bytesOfAnswer Form.Eight Answer.Skipped
 saidBytes (Answer.InStep n) = bytesOfAnswer Form.Eight (Answer.InStep n)
 
--- and its value: a character's element; a control of C0 has no bit 8, by which one of C1 is told
+-- and its value: a character's element, and a control's number; that of C0 has no bit 8, by which one of C1 is told
 abbrev pub Said : Answer → ℕ → Type 0
 Said Answer.NothingYet v = Unit {0}
 Said (Answer.Char e x p) v = v ≡ elementNumber e
 Said Answer.Space v = Unit {0}
 Said Answer.Delete v = Unit {0}
-Said (Answer.Control ControlElement.C0 f n) v = n < bit8
-Said (Answer.Control ControlElement.C1 f n) v = Unit {0}
+Said (Answer.Control ControlElement.C0 f n) v = (v ≡ n) × (n < bit8)
+Said (Answer.Control ControlElement.C1 f n) v = v ≡ n
 Said (Answer.DesignateControls w f) v = Unit {0}
 Said (Answer.Designate e x) v = Unit {0}
 Said (Answer.Shift h) v = Unit {0}

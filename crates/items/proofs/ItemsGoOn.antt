@@ -4,8 +4,8 @@ use mathlib.Core.Path.{_≡_, refl, sym, ap, _∙_, subst}
 use mathlib.Core.Bool.{true, false}
 use mathlib.Core.List.{List, []}
 use native.Mathlib.Omega.{arith}
-use borrow.Author.Tests.{lt-leb, le-leb, lt-ltb, le-ltb, leb-true, eqb-true, ne-eqb}
-use lib.Dec.{leb, eqb}
+use borrow.Author.Tests.{lt-leb, le-leb, lt-ltb, le-ltb, eqb-true, ne-eqb}
+use lib.Dec.{eqb}
 use lib.ListN.{length, getD}
 use Rattle.paper.specs.Choice.{_gives_or_, between}
 use Rattle.paper.specs.CodeTable.{areaOf, formHas, bit8, so, si, esc}
@@ -31,8 +31,7 @@ use Rattle.paper.specs.declared.Reader.{Reader}
 use Rattle.paper.specs.declared.Refusal.{Refusal}
 use Rattle.paper.specs.declared.Answer.{Answer}
 use Rattle.paper.proofs.Choices.{impossible, gives-by}
-use Rattle.charsets.specs.Sizes.{kindOf}
-use Rattle.items.specs.States.{sizeIn, elementOf, Single, none, one, singleNumber, withinOf, cellsOf, Stands}
+use Rattle.items.specs.States.{sizeIn, elementOf, Single, none, one, singleNumber, withinOf, Stands}
 use Rattle.items.specs.Items.{Item, refused, controlAt, graphicArea, elementIn, notOfSetAt, bySetByte, graphicIn, graphicAt, isControl}
 use Rattle.items.specs.Items.{controlOrSequence, itemOfByte, itemAt}
 use Rattle.items.proofs.AreasOfBytes.{c0-bound, gl-bound, c1-bound, gr-bound}
@@ -138,7 +137,7 @@ module _ (m : Form) (text : List ℕ) (P : Reader → ℕ → Type 0) (on : Wait
           (λ no-so. gives-by Right (eqb b si)
           (λ e. shift-right m text P on t gl gr single left place Within.Ground place p inside Shift.LS0 (is ∙ c0-si b ground no-esc no-so e))
           (λ no-si. says-well m text P on t gl gr single left place p inside (Answer.Control ControlElement.C0 (t .c0) b) b
-          (λ n e. impossible (cc)) low (is ∙ c0-else b ground no-esc no-so no-si)))))
+          (λ n e. impossible (cc)) (refl, low) (is ∙ c0-else b ground no-esc no-so no-si)))))
 
       of-c1 : areaOf b ≡ Area.C1 → Right (controlOrSequence m b text place)
       unfolding controlOrSequence controlAt

@@ -8,7 +8,7 @@ use borrow.Author.Tests.{ltb-true, ltb-false, lt-leb, le-leb, eqb-true, ne-eqb}
 use lib.Dec.{ltb, eqb}
 use lib.ListN.{length, getD}
 use Rattle.paper.specs.Choice.{_gives_or_, between}
-use Rattle.paper.specs.CodeTable.{areaOf, formHas, formHasColumn, positionOf, bit8, so, si, esc}
+use Rattle.paper.specs.CodeTable.{areaOf, formHas, formHasColumn, bit8, so, si, esc}
 use Rattle.paper.specs.Sets.{space, delete, setByte}
 use Rattle.paper.specs.Characters.{positionIn, byteIn}
 use Rattle.paper.specs.Results.{elementNumber, spaceWord, controlWord}
@@ -21,12 +21,12 @@ use Rattle.paper.specs.declared.SetByte.{SetByte}
 use Rattle.paper.specs.declared.GraphicArea.{GraphicArea}
 use Rattle.paper.proofs.Choices.{impossible, gives-by, between-bounds, in-bounds}
 use Rattle.paper.proofs.WrittenBytes.{form-has-area, both-have-c0, both-have-gl}
-use Rattle.charsets.specs.Sizes.{kindOf, countOf, isOne}
+use Rattle.charsets.specs.Sizes.{kindOf, isOne}
 use Rattle.charsets.proofs.PositionsOfEverySet.{position-of-set}
 use Rattle.charsets.proofs.SizesKept.{one-count}
 use Rattle.escapes.specs.Effects.{plain}
 use Rattle.items.specs.States.{singleIn, leftIn, sizeIn, elementOf}
-use Rattle.items.specs.Items.{Item, characterOf, shifts, controlAt, graphicArea, elementIn, byCount, bySetByte, notOfSetAt}
+use Rattle.items.specs.Items.{characterOf, shifts, controlAt, graphicArea, elementIn, byCount, bySetByte, notOfSetAt}
 use Rattle.items.specs.Items.{graphicAt, isControl, controlOrSequence, itemOfByte, itemAt}
 use Rattle.items.specs.Letters.{isLetter}
 use Rattle.items.proofs.AreasOfBytes.{area-by, below-space, below-bit-8}

@@ -27,15 +27,14 @@ use Rattle.paper.specs.declared.Refusal.{Refusal}
 use Rattle.paper.specs.declared.Answer.{Answer}
 use Rattle.paper.proofs.Choices.{impossible, gives-by}
 use Rattle.paper.proofs.WrittenBytes.{form-has-area, both-have-gl, intermediate-area, final-area}
-use Rattle.charsets.specs.Sizes.{sizeOfSet}
 use Rattle.escapes.specs.Effects.{shiftEffect, effectOf}
 use Rattle.escapes.specs.declared.effect.Effect.{Effect}
 use Rattle.items.specs.States.{changed, Single, none, one, Stands}
 use Rattle.items.specs.Items.{Item, notOfSequence, bySequenceByte, insideAt, bytesMeant, meantAt, bytesRead, finalAt, afterTwo, afterOne}
 use Rattle.items.specs.Items.{afterEscape}
-use Rattle.items.proofs.ItemsByBytes.{WaitsOn, here, cells, IsGood, At, in-form-here, not-in-form, waits-on, ends-well, says-well}
+use Rattle.items.proofs.ItemsByBytes.{WaitsOn, here, cells, IsGood, At, in-form-here, not-in-form, waits-on, ends-well}
 use Rattle.items.proofs.ItemsByBytes.{stops-at, ends-inside}
-use Rattle.items.proofs.SequencesAsWritten.{Bytes, of-function, read-bytes}
+use Rattle.items.proofs.SequencesAsWritten.{Bytes, read-bytes}
 
 module _ (m : Form) (text : List ℕ) (P : Reader → ℕ → Type 0) (on : WaitsOn text P) (t : Sets) (gl gr : Element) (single : Single)
     (left start : ℕ) where
@@ -157,7 +156,7 @@ module _ (m : Form) (text : List ℕ) (P : Reader → ℕ → Type 0) (on : Wait
       refl right tt (record { single = none; left = 0; has = refl; stands = refl })
   means-right w place p inside (Meaning.Function n) i bytes right is =
       ends-well m text P on t gl gr single left start p inside refl (Answer.Control ControlElement.C1 (t .c1) n) _ is
-      (λ n e. impossible (cc)) refl refl tt (record { single = none; left = n; has = refl; stands = refl })
+      (λ n e. impossible (cc)) refl refl refl (record { single = none; left = n; has = refl; stands = refl })
   means-right w place p inside (Meaning.Shifts h) i bytes right is =
       rw (shift-word h) (shift-right w place p inside h is)
   means-right w place p inside (Meaning.DesignateControls v) i bytes right is =

@@ -5,7 +5,6 @@ use mathlib.Core.Path.{_≡_, refl, sym, ap, _∙_, subst}
 use mathlib.Core.List.{List, [], _∷_}
 use native.Mathlib.Omega.{arith}
 use lib.ListN.{getD, set}
-use Rattle.paper.specs.Results.{elementNumber}
 use Rattle.paper.specs.declared.Element.{Element}
 use Rattle.paper.specs.declared.Reader.{Reader}
 use Rattle.escapes.specs.Effects.{nowhere, plain}

@@ -8,6 +8,7 @@ use lib.ListN.{length, getD}
 use Rattle.paper.specs.Choice.{_gives_or_}
 use Rattle.paper.specs.CodeTable.{areaOf, formHas, bit8, so, si, esc}
 use Rattle.paper.specs.Results.{elementNumber, controlSize, charWord, spaceWord, deleteWord, controlWord, shiftWord, refusedWord}
+use Rattle.paper.specs.Results.{instepWord}
 use Rattle.paper.specs.Sequences.{sequenceByte, meaningOf, c1Function, intermediateOf, several, isShort}
 use Rattle.paper.specs.Characters.{positionIn, byteIn}
 use Rattle.paper.specs.WrittenForms.{sequenceBytes}
@@ -51,7 +52,7 @@ refused n place = stopped (numberOf n) place
 
 -- past the end of a text there is no item: a word after the paper's
 abbrev pub pastWord : ℕ
-pastWord = 11
+pastWord = instepWord + 1
 
 abbrev pub pastTheEnd : ℕ → Item
 pastTheEnd place = record { effect = plain pastWord 0; bytes = []; place = place }
@@ -211,7 +212,7 @@ isControl Area.GR = false
 unfoldable pub controlOrSequence : Form → ℕ → List ℕ → ℕ → Item
 controlOrSequence m b text place = eqb b esc gives afterEscape m text (place + 1) or controlAt b place (place + 1)
 
--- by the element that a single shift takes, which takes a control too; none is 0
+-- by the element that a single shift takes; none is 0. After a single shift a control is a byte of another area
 unfoldable pub itemOfByte : Form → List ℕ → ℕ → ℕ → List ℕ → ℕ → Item
 itemOfByte m cells t b text place =
     formHas m b gives

@@ -17,13 +17,12 @@ use codetable::form_has;
 use escapes::effect::CHAR_WORD;
 use escapes::effect::Effect;
 use escapes::effect::ElementNumber;
+use escapes::effect::INSTEP_WORD;
 use escapes::effect::REFUSED_WORD;
 use escapes::effect::plain;
 use paper::Form;
 use refusals::BYTE_OF_EIGHT_BITS;
-ghost use Prim.Native.Nat.{_≤_, _<_};
 ghost use mathlib.Core.Path.{_≡_};
-ghost use mathlib.Core.List.{[]};
 ghost use Rattle.paper.specs.CodeTable.{areaOf};
 ghost use Rattle.items.specs.Pieces.{bytesIn, Small};
 ghost use Rattle.items.specs.Items.{itemOf, characterOf, stopped, isControl, itemAt};
@@ -37,7 +36,7 @@ pub struct Item {
 }
 
 // Past the end of a text there is no item: a word after the paper's.
-pub const PAST_WORD: u8 = 11;
+pub const PAST_WORD: u8 = INSTEP_WORD + 1;
 
 pub(crate) fn character_of(element: ElementNumber, piece: Piece, place: usize) -> Item
     ensures { λ r. ⌜ (itemOf r ≡ characterOf (element .0) (bytesIn piece) place) × (r .piece ≡ piece) ⌝ }

@@ -1,13 +1,20 @@
-// A piece of output: what is written for one item, at most five bytes. They stand in one number, the first in its lowest place, so
-// that a piece is handed over in two registers.
+// The bytes of an item, or of what is written for it, at most five. They stand in one number, the first in its lowest place, so that a
+// piece is handed over in two registers.
 ghost use Prim.Native.Nat.{_+_, _*_, _≤_, _<_};
 ghost use mathlib.Core.Path.{_≡_};
 ghost use mathlib.Core.List.{_∷_, []};
 ghost use Rattle.items.specs.Pieces.{bytesIn, oneByte, front};
 
-// The second place of the number, and how many places it has room for in front of another.
+// The places of the number from its second on.
 pub const SECOND: u64 = 0x100;
 
+pub const THIRD: u64 = 0x10000;
+
+pub const FOURTH: u64 = 0x1000000;
+
+pub const FIFTH: u64 = 0x100000000;
+
+// Below this a number has room for one place more.
 const ROOM: u64 = 0x100000000000000;
 
 pub struct Piece {

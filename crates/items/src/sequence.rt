@@ -40,7 +40,7 @@ use refusals::ENDS_INSIDE;
 use refusals::NOT_OF_SEQUENCE;
 use refusals::THIRD_INTERMEDIATE;
 use refusals::WITHOUT_MEANING;
-ghost use Prim.Native.Nat.{_≤_, _<_};
+ghost use Prim.Native.Nat.{_≤_};
 ghost use mathlib.Core.Path.{_≡_};
 ghost use lib.ListN.{length};
 ghost use Rattle.items.specs.Pieces.{bytesIn, Small};

@@ -1,10 +1,14 @@
 // What is known between two items of a text, in cells: the sizes of the sets in G0 to G3, what GL and GR show, and the element that a
 // single shift takes, or none. Their Final Bytes are not kept, since nothing that is counted or written depends on them. The state is a
 // row of small numbers, so that an item changes it by one store; docs/SPEED.md says more.
+use charsets::OF_94;
+use charsets::OF_96;
 use charsets::Size;
 use codetable::BIT_8;
 use escapes::effect::Effect;
 use escapes::effect::ElementNumber;
+use escapes::effect::G0;
+use escapes::effect::G1;
 use escapes::effect::GL;
 use escapes::effect::GR;
 use escapes::effect::SINGLE;
@@ -21,7 +25,24 @@ pub const NONE: u8 = 0;
 pub fn starting() -> [u8; CELLS]
     ensures { λ r. ⌜ r ≡ startingCells ⌝ }
 {
-    [0, 0, 0, 1, 1, 1, 2, 3, NONE, 0, 0, 0, 0, 0, 0, 0]
+    [
+        0,
+        0,
+        OF_94,
+        OF_96,
+        OF_96,
+        OF_96,
+        G0,
+        G1,
+        NONE,
+        0,
+        0,
+        0,
+        0,
+        0,
+        0,
+        0,
+    ]
 }
 
 pub fn single(state: &[u8; CELLS]) -> ElementNumber

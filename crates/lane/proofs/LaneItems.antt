@@ -1,30 +1,28 @@
 -- A byte that passes the lane of a state is one item, which changes nothing: a quiet control, SPACE, or a position of a set of one byte.
-use Prim.Native.Nat.{ℕ, _+_, _-_, _%_, _≤_, _<_}
-use mathlib.Core.Path.{_≡_, refl, sym, ap, _∙_, subst}
+use Prim.Native.Nat.{ℕ, _+_, _%_, _≤_, _<_}
+use mathlib.Core.Path.{_≡_, refl, ap, _∙_, subst}
 use mathlib.Core.Bool.{Bool, true, false}
 use mathlib.Core.List.{List, [], _∷_}
 use mathlib.Core.Logic.{_⊎_, inl, inr, ⊎-elim}
 use native.Mathlib.Omega.{arith}
-use borrow.Author.Tests.{ltb-true, ltb-false, eqb-true, eqb-false, lt-ltb, le-ltb}
+use borrow.Author.Tests.{ltb-true, ltb-false, eqb-true, lt-ltb, le-ltb}
 use lib.Dec.{ltb, eqb}
 use lib.ListN.{length, getD}
-use Rattle.paper.specs.Choice.{_gives_or_}
-use Rattle.paper.specs.CodeTable.{formHas, bit8, so, si, esc}
-use Rattle.paper.specs.Sets.{space, delete}
+use Rattle.paper.specs.CodeTable.{formHas, bit8}
+use Rattle.paper.specs.Sets.{space}
 use Rattle.paper.specs.Results.{charWord, spaceWord, controlWord}
 use Rattle.paper.specs.declared.Form.{Form}
-use Rattle.paper.specs.declared.Kind.{Kind}
 use Rattle.paper.specs.declared.Kind.the-variants.{Of94, Of96}
 use Rattle.paper.specs.declared.Count.{Count}
-use Rattle.paper.proofs.Choices.{impossible, gives-by}
-use Rattle.charsets.specs.Sizes.{sizeNumber, kindOf, isOne, isOf94}
+use Rattle.paper.proofs.Choices.{gives-by}
+use Rattle.charsets.specs.Sizes.{sizeNumber, kindOf, isOne}
 use Rattle.escapes.specs.Effects.{plain}
 use Rattle.items.specs.States.{singleIn, leftIn, rightIn, sizeIn, elementOf}
 use Rattle.items.specs.Items.{Item, characterOf, itemAt}
 use Rattle.items.proofs.ItemsOfBytes.{gl-has, eight-has, position-item, high-item, control-item, space-item}
 use Rattle.lane.specs.declared.Lane.{Lane}
 use Rattle.lane.specs.Passing.{passes}
-use Rattle.lane.specs.Lanes.{firstPosition, lastPosition, plainTo, positionsOf, lastPlain, laneWith, laneOf, hasSpace, wordIn}
+use Rattle.lane.specs.Lanes.{firstPosition, lastPosition, lastPlain, laneWith, laneOf, hasSpace, wordIn}
 use Rattle.lane.proofs.EachPasses.{passes-means}
 
 pub less-or-not : (n m : ℕ) → (n < m) ⊎ (m ≤ n)

@@ -1,5 +1,5 @@
 -- A letter passes the lane of its state: its set has one byte to a character, and 2/1 to 7/14 are positions of every set.
-use Prim.Native.Nat.{ℕ, _+_, _/_, _%_, _≤_, _<_}
+use Prim.Native.Nat.{ℕ, _/_, _≤_, _<_}
 use mathlib.Core.Path.{_≡_, refl, sym, ap, _∙_}
 use mathlib.Core.Bool.{true}
 use mathlib.Core.List.{List}
@@ -7,12 +7,11 @@ use mathlib.Core.Logic.{_⊎_, inl, inr, ⊎-elim}
 use native.Mathlib.Omega.{arith}
 use borrow.Author.Tests.{leb-true, ltb-true}
 use Rattle.paper.specs.CodeTable.{formHas, formHasColumn, positionOf, bit8}
-use Rattle.paper.specs.Sets.{space}
 use Rattle.paper.specs.declared.Form.{Form}
 use Rattle.paper.specs.declared.Kind.{Kind}
 use Rattle.paper.specs.declared.Kind.the-variants.{Of94, Of96}
 use Rattle.charsets.specs.Sizes.{kindOf, isOne}
-use Rattle.items.specs.States.{leftIn, rightIn, sizeIn, elementOf}
+use Rattle.items.specs.States.{leftIn, rightIn, sizeIn}
 use Rattle.items.specs.Letters.{isLetter}
 use Rattle.items.proofs.ItemsOfBytes.{Letter, letter-is}
 use Rattle.lane.specs.Passing.{passes}

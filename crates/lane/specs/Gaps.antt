@@ -26,6 +26,6 @@ gapAhead text place =
     false) or
     false
 
--- no control or space follows the byte at a place
+-- a byte above SPACE follows the one at a place
 unfoldable pub wordAhead : List ℕ → ℕ → Bool
 wordAhead text place = leb (place + 2) (length text) gives ltb space (getD text (place + 1) 0) or false

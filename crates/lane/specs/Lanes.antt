@@ -25,8 +25,14 @@ lastPosition Kind.Of94 = delete - 1
 lastPosition Kind.Of96 = delete
 
 -- no byte stands within these bounds
+abbrev pub firstOfNone : ℕ
+firstOfNone = 1
+
+abbrev pub lastOfNone : ℕ
+lastOfNone = 0
+
 abbrev pub plainTo : ℕ → Lane
-plainTo plain = record { plain = plain; first = 1; last = 0 }
+plainTo plain = record { plain = plain; first = firstOfNone; last = lastOfNone }
 
 abbrev pub positionsOf : ℕ → Kind → Lane
 positionsOf plain k = record { plain = plain; first = bit8 + firstPosition k; last = bit8 + lastPosition k }
@@ -45,7 +51,7 @@ laneWith plain x =
     eqb x (sizeNumber Kind.Of96 Count.One) gives positionsOf plain Kind.Of96 or
     plainTo plain
 
--- by the sets in GL and GR; a text in 7-bit form has no GR
+-- on the ground, by the sets in GL and GR; a text in 7-bit form has no GR
 abbrev pub laneOf : Form → List ℕ → Lane
 laneOf Form.Seven cells = plainTo (lastPlain (sizeIn cells (leftIn cells)))
 laneOf Form.Eight cells = laneWith (lastPlain (sizeIn cells (leftIn cells))) (sizeIn cells (rightIn cells))

@@ -80,7 +80,7 @@ fn lane_with(plain: u8, size: Size) -> Lane
     }
 }
 
-// What passes in a state: plain bytes by the set in GL, and in 8-bit form bytes of GR.
+// What passes in a state on the ground: plain bytes by the set in GL, and in 8-bit form bytes of GR.
 pub fn lane_of(form: Form, state: &[u8; CELLS]) -> Lane
     ensures { λ r. ⌜ r ≡ laneOf form (now (state .entry)) ⌝ }
 {
@@ -206,7 +206,7 @@ pub fn gap_ahead(text: &[u8], place: usize) -> bool
     text[place + 2] == SO
 }
 
-// Whether no control or space follows the byte at a place: a word goes on.
+// Whether a byte above SPACE follows the one at a place: mostly a word goes on.
 pub fn word_ahead(text: &[u8], place: usize) -> bool
     ensures { λ r. ⌜ r ≡ wordAhead (now (text .entry)) place ⌝ }
 {

@@ -1,5 +1,5 @@
 -- No rule of the paper: for contracts of this layer.
--- The refusal that has a number.
+-- The refusal that has a number; any other number gives the last.
 use Prim.Native.Nat.{ℕ}
 use lib.Dec.{eqb}
 use Rattle.paper.specs.Choice.{_gives_or_}

@@ -49,7 +49,7 @@ pub fn number_of(refusal: Refusal) -> usize
     }
 }
 
-// The refusal that has a number; above them all the last.
+// The refusal that has a number; any other number gives the last.
 pub fn refusal_of(number: u8) -> Refusal
     ensures { λ r. ⌜ r ≡ refusalOf number ⌝ }
 {

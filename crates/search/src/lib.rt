@@ -18,7 +18,7 @@ ghost use Rattle.paper.specs.Answering.{answerSearching, answerLost};
 ghost use Rattle.search.specs.NextMatch.{openingAt, endAt, begun, begunAfter, begunAt};
 ghost use Rattle.search.specs.NextOpening.{openingAfter};
 
-// The bytes with which both openings begin.
+// How many bytes both openings begin with, and which.
 const COMMON: u8 = 18;
 
 const OPENING_START: [u8; COMMON as usize] = [

@@ -7,14 +7,13 @@ use native.Mathlib.Omega.{arith}
 use borrow.Author.Needs.{needs}
 use lib.ListN.{length, getD}
 use Rattle.paper.specs.CodeTable.{bit8}
-use Rattle.paper.specs.Results.{elementNumber, refusedWord}
-use Rattle.paper.specs.Conversions.{refusalIn}
+use Rattle.paper.specs.Results.{elementNumber}
 use Rattle.paper.specs.declared.Element.{Element}
 use Rattle.paper.specs.declared.Refusal.{Refusal}
 use Rattle.paper.specs.declared.FirstRefusal.the-variants.{First}
 use Rattle.items.specs.Pieces.{bytesIn}
 use Rattle.items.specs.States.{elementOf, changed}
-use Rattle.items.specs.Items.{Item, itemOf, itemAt}
+use Rattle.items.specs.Items.{itemOf, itemAt}
 use Rattle.items.specs.Letters.{isLetter}
 use Rattle.converter.specs.Passes.{atTheEnd}
 use Rattle.converter.specs.Passing.{Passes}

@@ -1,7 +1,7 @@
 -- The one byte of a control is the lowest of its number; its test is that of `controlIn`.
 use Prim.Native.Nat.{ℕ, _%_}
-use mathlib.Core.Path.{_≡_, refl, ap, _∙_}
-use mathlib.Core.List.{List, [], _∷_}
+use mathlib.Core.Path.{_≡_, ap}
+use mathlib.Core.List.{[], _∷_}
 use native.Mathlib.Omega.{arith}
 use Rattle.paper.proofs.Tests.{tests}
 use Rattle.items.specs.Pieces.{bytesOf, bytesIn}
