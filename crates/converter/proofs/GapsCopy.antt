@@ -79,13 +79,13 @@ module _ {m : Form} {text lent cells : List ℕ} {shown at place : ℕ} {buffer 
       let lowered : next % bit8 ≡ next - bit8 = omega (arith, a .low, a .high) in
       let in-gr : elementOf cells next ≡ elementNumber Element.G1 = shown-in-gr cells next (omega (arith, a .low)) ∙ g .right-is in
       let half : Passes m Form.Seven text lent cells (elementNumber Element.G0) (at + 2) (place + 1) (sets buffer at first) =
-      plain-goes-on p (omega (arith, a .inside)) ground spaceWord 0 (space ∷ []) (λ e. omega arith)
+      plain-goes-on p (omega (arith, a .inside)) ground spaceWord 0 (space ∷ []) (omega arith)
       (space-item m cells text place (omega (arith, a .inside)) ground (a .is-space) (rw (g .left-is, g .g0-is)))
       first (elementNumber Element.G0) (rw (is, g .g1-is)) (sets buffer at first) (length-sets buffer at first) (λ h. refl) in
       subst (λ (n : ℕ). Passes m Form.Seven text lent cells shown (at + 4) n after) there
       (subst (λ (n : ℕ). Passes m Form.Seven text lent cells shown n (place + 1 + 1) after) written
       (subst (λ (n : ℕ). Passes m Form.Seven text lent cells n (at + 2 + 2) (place + 1 + 1) after) (sym is)
-      (plain-goes-on half (omega (arith, a .inside)) ground charWord (elementOf cells next) (next % bit8 ∷ []) (λ e. omega arith)
+      (plain-goes-on half (omega (arith, a .inside)) ground charWord (elementOf cells next) (next % bit8 ∷ []) (omega arith)
       (position-item m cells text (place + 1) (omega (arith, a .inside)) ground (ap (λ (f : Form). formHas f next) form ∙ eight-has next)
       (omega (arith, a .low, a .high)) (omega (arith, a .low, a .high)) (rw (in-gr, g .g1-is)))
       second (elementNumber Element.G1) (rw (in-gr, lowered)) after (long ∙ sym (length-sets buffer at first))
@@ -101,15 +101,15 @@ module _ {m : Form} {text lent cells : List ℕ} {shown at place : ℕ} {buffer 
       let there : place + 2 + 1 ≡ place + 3 = omega arith in
       let shifted : Passes m Form.Eight text lent (afterIn cells) shown at (place + 1) buffer =
       subst (λ (n : ℕ). Passes m Form.Eight text lent (afterIn cells) shown n (place + 1) buffer) (add-zero at)
-      (item-goes-on p (omega (arith, g .inside)) (shifts (elementNumber Element.G0) (place + 1)) (g .shift-in) (λ e. omega arith)
+      (item-goes-on p (omega (arith, g .inside)) (shifts (elementNumber Element.G0) (place + 1)) (g .shift-in) (omega arith)
       buffer refl (λ h. refl)) in
       let spaced : Passes m Form.Eight text lent (afterSpace cells) shown (at + 1) (place + 2) after =
       subst (λ (n : ℕ). Passes m Form.Eight text lent (afterSpace cells) shown (at + 1) n after) one-more
-      (item-goes-on shifted (omega (arith, g .inside)) (spaceItem (place + 1 + 1)) (g .space-sign) (λ e. omega arith) after long stored) in
+      (item-goes-on shifted (omega (arith, g .inside)) (spaceItem (place + 1 + 1)) (g .space-sign) (omega arith) after long stored) in
       subst (λ (n : ℕ). Passes m Form.Eight text lent cells shown (at + 1) n after) there
       (subst (λ (n : ℕ). Passes m Form.Eight text lent cells shown n (place + 2 + 1) after) (add-zero (at + 1))
       (same-passes (g .same)
-      (item-goes-on spaced (omega (arith, g .inside)) (shifts (elementNumber Element.G1) (place + 2 + 1)) (g .shift-out) (λ e. omega arith)
+      (item-goes-on spaced (omega (arith, g .inside)) (shifts (elementNumber Element.G1) (place + 2 + 1)) (g .shift-out) (omega arith)
       after refl (λ h. refl))))
 
 pub gap-goes-on : (m to : Form) {text lent cells : List ℕ} {shown at place : ℕ} {buffer : List ℕ} (b : ℕ) →

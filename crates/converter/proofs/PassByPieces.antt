@@ -24,7 +24,7 @@ use Rattle.converter.proofs.RunsGoOn.{same-passes}
 
 module _ {m to : Form} {text lent cells : List ℕ} {shown at place : ℕ} {buffer : List ℕ}
     (p : Passes m to text lent cells shown at place buffer) (inside : place < length text) where
-  module _ (i : Item) (is : itemAt m cells text place ≡ i) (goes : i .effect .word .0 ≡ refusedWord → ⊥) (w : Written)
+  module _ (i : Item) (is : itemAt m cells text place ≡ i) (goes : i .effect .word .0 < refusedWord) (w : Written)
       (wrote : wroteOf w ≡ writes to shown cells (i .effect) (i .bytes)) where
     pub piece-is-small : w .piece .count ≤ 5
     piece-is-small =
@@ -51,11 +51,11 @@ module _ {m to : Form} {text lent cells : List ℕ} {shown at place : ℕ} {buff
     wrote-it = wrote
 
     pub letter-is-small : w .piece .count ≤ 5
-    letter-is-small = piece-is-small character (letter-item m cells text place inside letter) (λ e. omega arith) w wrote-it
+    letter-is-small = piece-is-small character (letter-item m cells text place inside letter) (omega arith) w wrote-it
 
     pub letter-goes-on : (after : List ℕ) → length after ≡ length buffer →
         (at + w .piece .count ≤ length lent → after ≡ sets buffer at (bytesIn (w .piece))) →
         Passes m to text lent cells (w .shown .0) (at + w .piece .count) (place + 1) after
     letter-goes-on after as-long stored =
         same-passes (plain-same (p .stands) (letter-is m cells _ letter .ground) charWord (elementOf cells (getD text place 0)))
-        (piece-goes-on character (letter-item m cells text place inside letter) (λ e. omega arith) w wrote-it after as-long stored)
+        (piece-goes-on character (letter-item m cells text place inside letter) (omega arith) w wrote-it after as-long stored)

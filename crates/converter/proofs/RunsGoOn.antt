@@ -79,6 +79,7 @@ module _ {m to : Form} {text lent : List ℕ} {shown at place : ℕ} {buffer : L
           within = q .within;
           in-step = q .in-step;
           form = q .form;
+          shows = q .shows;
           refused = q .refused;
           so-far = q .so-far;
           whole = q .whole;
@@ -91,7 +92,7 @@ module _ {m to : Form} {text lent : List ℕ} {shown at place : ℕ} {buffer : L
 -- an item that changes nothing, for which these bytes are written
 pub plain-goes-on : {m to : Form} {text lent cells : List ℕ} {shown at place : ℕ} {buffer : List ℕ} →
     Passes m to text lent cells shown at place buffer → place < length text → singleIn cells ≡ 0 → (word value : ℕ) (bytes : List ℕ) →
-    (word ≡ refusedWord → ⊥) → itemAt m cells text place ≡ record { effect = plain word value; bytes = bytes; place = place + 1 } →
+    word < refusedWord → itemAt m cells text place ≡ record { effect = plain word value; bytes = bytes; place = place + 1 } →
     (out : List ℕ) (then : ℕ) → writes to shown cells (plain word value) bytes ≡ alone out then →
     (after : List ℕ) → length after ≡ length buffer → (at + length out ≤ length lent → after ≡ sets buffer at out) →
     Passes m to text lent cells then (at + length out) (place + 1) after
@@ -110,7 +111,7 @@ module _ {m to : Form} {text lent cells : List ℕ} {shown : ℕ} {way : Way} (c
       Passes m to text lent cells shown (at + 1) (place + 1) after
   byte-goes-on {at} {place} inside passed p after long stored =
       let c = copies place inside passed in
-      plain-goes-on p inside ground (c .word) (c .value) (c .bytes) (c .no-refusal) (c .reads) (copiedBy way (getD text place 0) ∷ []) shown
+      plain-goes-on p inside ground (c .word) (c .value) (c .bytes) (c .below) (c .reads) (copiedBy way (getD text place 0) ∷ []) shown
       (c .wrote) after long stored
 
   pub block-goes-on : (n : ℕ) {at place : ℕ} {buffer : List ℕ} → place + n ≤ length text →

@@ -116,7 +116,7 @@ module _ (m to : Form) (cells text : List ℕ) (ground : singleIn cells ≡ 0) (
     word = controlWord;
     value = getD text place 0;
     bytes = getD text place 0 ∷ [];
-    no-refusal = λ e. omega arith;
+    below = omega arith;
     reads = reads;
     wrote =
         control-of-c0 to (getD text place 0) shown (omega arith) ∙ ap (λ (n : ℕ). alone (n ∷ []) shown) (sym (w .of-control low));
@@ -125,7 +125,7 @@ module _ (m to : Form) (cells text : List ℕ) (ground : singleIn cells ≡ 0) (
     word = spaceWord;
     value = 0;
     bytes = space ∷ [];
-    no-refusal = λ e. omega arith;
+    below = omega arith;
     reads = reads;
     wrote = w .of-space is kind;
   }
@@ -133,7 +133,7 @@ module _ (m to : Form) (cells text : List ℕ) (ground : singleIn cells ≡ 0) (
     word = charWord;
     value = elementOf cells (getD text place 0);
     bytes = getD text place 0 % bit8 ∷ [];
-    no-refusal = λ e. omega arith;
+    below = omega arith;
     reads = c .reads;
     wrote = w .of-character c;
   }

@@ -5,27 +5,29 @@ use Prim.Native.Nat.{ℕ, _≤_}
 use mathlib.Core.Path.{_≡_}
 use mathlib.Core.List.{List, _++_}
 use lib.ListN.{length, drop}
+use Rattle.paper.specs.Marks.{recording}
 use Rattle.paper.specs.Answering.{endOfText}
 use Rattle.paper.specs.Texts.{readerAfter, answersFrom}
 use Rattle.paper.specs.LentBuffers.{over}
 use Rattle.paper.specs.Results.{elementNumber}
 use Rattle.paper.specs.Surveying.{firstRefusal, firstOf}
-use Rattle.paper.specs.WrittenForms.{Writer, sequenceIn, writtenFrom}
+use Rattle.paper.specs.WrittenForms.{Writer, sequenceFrom, writtenFrom}
 use Rattle.paper.specs.Conversions.{refusalAtEnd, refusalIn, output}
 use Rattle.paper.specs.declared.Form.{Form}
 use Rattle.paper.specs.declared.Element.{Element}
 use Rattle.paper.specs.declared.Reader.{Reader}
 use Rattle.paper.specs.declared.FirstRefusal.{FirstRefusal}
 use Rattle.paper.proofs.LawfulAnswers.{IsInStep}
+use Rattle.paper.proofs.OpeningsTakenWhole.{ShowsG1}
 use Rattle.items.specs.States.{Stands}
 
 -- the writer beside a reader has the reader's sets
 abbrev pub beside : Reader → Element → Writer
 beside r gl = record { sets = r .sets; gl = gl }
 
--- the rest of the output, and the refusal of what is left
+-- the rest of the output, where no opening stands across the place, and the refusal of what is left
 abbrev pub restFrom : Form → Reader → Element → ℕ → List ℕ → List ℕ
-restFrom to r gl place text = writtenFrom to (beside r gl) (sequenceIn (answersFrom place r (drop place text)))
+restFrom to r gl place text = writtenFrom to (beside r gl) (sequenceFrom (recording 0 r) (drop place text))
 
 abbrev pub refusalFrom : Reader → ℕ → List ℕ → FirstRefusal
 refusalFrom r place text =
@@ -37,6 +39,7 @@ pub record Passing (m to : Form) (text lent : List ℕ) (r : Reader) (gl : Eleme
   pub within : place ≤ length text
   pub in-step : IsInStep (r .standing)
   pub form : r .form ≡ m
+  pub shows : ShowsG1 r
   pub refused : refusalFrom r place text ≡ refusalIn m text
   pub so-far : List ℕ
   pub whole : so-far ++ restFrom to r gl place text ≡ output m to text

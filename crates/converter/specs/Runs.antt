@@ -57,7 +57,7 @@ pub record Copied (m to : Form) (cells : List ℕ) (shown : ℕ) (text : List �
   pub word : ℕ
   pub value : ℕ
   pub bytes : List ℕ
-  pub no-refusal : word ≡ refusedWord → ⊥
+  pub below : word < refusedWord
   pub reads : itemAt m cells text place ≡ record { effect = plain word value; bytes = bytes; place = place + 1 }
   pub wrote : writes to shown cells (plain word value) bytes ≡ alone (copiedBy way (getD text place 0) ∷ []) shown
 

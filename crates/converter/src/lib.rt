@@ -8,6 +8,7 @@ use codetable::BIT_8;
 use escapes::effect::ElementNumber;
 use escapes::effect::G0;
 use escapes::effect::REFUSED_WORD;
+use items::item::OPENING_WORD;
 use items::item::read_item;
 use items::letter::is_letter;
 use items::piece::one;
@@ -16,6 +17,8 @@ use items::state::change;
 use items::state::element_of;
 use items::state::single;
 use items::state::starting;
+use openings::opening_length;
+use openings::put_opening;
 use paper::Converted;
 use paper::Form;
 use paper::Refusal;
@@ -106,15 +109,22 @@ fn pass(form: Form, to: Form, text: &[u8], buffer: &mut [u8]) -> Converted
             let item = read_item(form, &state, text, place);
             let effect = item.effect;
             let word = effect.word;
-            if word.0 == REFUSED_WORD {
-                return Converted::Refused(refusal_of(effect.value), item.place);
+            if word.0 < REFUSED_WORD {
+                let written = write(to, shown, &state, effect, item.piece);
+                let piece = written.piece;
+                put_if_room(buffer, at, piece);
+                at += piece.count;
+                shown = written.shown;
+                change(&mut state, effect);
+            } else {
+                if word.0 == REFUSED_WORD {
+                    return Converted::Refused(refusal_of(effect.value), item.place);
+                }
+                put_opening(to, buffer, at);
+                at += opening_length(to) as usize;
+                shown = ElementNumber(G0);
+                state = starting();
             }
-            let written = write(to, shown, &state, effect, item.piece);
-            let piece = written.piece;
-            put_if_room(buffer, at, piece);
-            at += piece.count;
-            shown = written.shown;
-            change(&mut state, effect);
             place = item.place;
         }
     }

@@ -68,7 +68,7 @@ pub const SINGLE_SHIFT_THREE: u8 = 15;
 pub const FINAL_OF_FUNCTION: u8 = 0x40;
 
 // The intermediates of control sets, and the one that leads to sets of several bytes.
-const OF_C0: u8 = 0x21;
+pub const OF_C0: u8 = 0x21;
 
 const OF_C1: u8 = 0x22;
 

@@ -13,7 +13,8 @@ use Rattle.paper.specs.Results.{refusedWord, instepWord}
 use Rattle.paper.specs.Starting.{started, opening}
 use Rattle.paper.specs.Searching.{matchedWith, oneMore}
 use Rattle.paper.specs.Characters.{refuses}
-use Rattle.paper.specs.Answering.{answerTo, answerLost, endStanding}
+use Rattle.paper.specs.Marks.{recording}
+use Rattle.paper.specs.Answering.{answerLost, endStanding}
 use Rattle.paper.specs.Surveying.{firstOf, figuresOf}
 use Rattle.paper.specs.declared.Form.{Form}
 use Rattle.paper.specs.declared.Element.{Element}
@@ -25,24 +26,28 @@ use Rattle.paper.specs.declared.Answer.{Answer}
 use Rattle.paper.specs.declared.FirstRefusal.{FirstRefusal}
 use Rattle.paper.specs.declared.FirstRefusal.the-variants.{Never, First}
 use Rattle.paper.proofs.Choices.{impossible}
+use Rattle.paper.proofs.AnswersWithoutTheRecord.{answerOf}
 use Rattle.refusals.specs.ByNumber.{refusalOf}
 use Rattle.refusals.proofs.RefusalsByNumber.{refusal-kept}
 use Rattle.search.specs.NextOpening.{openingIn, openingAfter}
 use Rattle.search.specs.declared.Opening.{Opening}
 use Rattle.search.proofs.SearchOverAText.{search-ends, search-goes-on, search-misses}
 use Rattle.items.specs.States.{singleIn, Single, none, one, singleNumber, withinOf, startingCells}
-use Rattle.items.specs.Items.{Item, itemAt}
-use Rattle.items.proofs.ItemsByBytes.{Stopped, refused-at, ends-inside-at, RefusedAt, good-stops}
+use Rattle.items.specs.Items.{Item, openingWord, itemAt}
+use Rattle.items.proofs.ItemsByBytes.{Stopped, refused-at, ends-inside-at, RefusedAt}
 use Rattle.figures.specs.Counting.{added, Counting, Counts, endAfter, figuresFrom}
 use Rattle.figures.proofs.RestToCount.{counting-starts, first-stays, counts-more, counts-no-more, all-figures}
-use Rattle.figures.proofs.CountingByItems.{good}
+use Rattle.figures.proofs.CountingByItems.{CountingOn, stopped}
 
 -- ---- the start and the end of a text
 
-in-step-again : {form : Form} {text counts : List ℕ} {first : FirstRefusal} {place : ℕ} →
+pub in-step-again : {form : Form} {text counts : List ℕ} {first : FirstRefusal} {place : ℕ} →
     Counting form text counts first (started form) place → Counts form text startingCells counts first place
-in-step-again {form} c =
-    record { reader = started form; stands = record { single = none; left = 0; has = refl; stands = refl }; counting = c }
+in-step-again {form} c = record {
+  reader = started form;
+  stands = record { single = none; left = 0; has = refl; stands = refl; nothing-gone = refl };
+  counting = c;
+}
 
 pub counts-start : (form : Form) (text : List ℕ) → length text ≤ longestText → Counts form text startingCells (replicate 11 0) Never 0
 counts-start form text short = in-step-again (counting-starts form text short)
@@ -64,7 +69,7 @@ counts-end c past =
 
 -- so much of an opening is matched
 abbrev lost : Form → Reader → ℕ → ℕ → Reader
-lost form r k n = record { form = form; sets = r .sets; gl = r .gl; gr = r .gr; standing = Standing.Lost k n }
+lost form r k n = record { form = form; sets = r .sets; gl = r .gl; gr = r .gr; gone = r .gone; standing = Standing.Lost k n }
 
 record Searching (form : Form) (text : List ℕ) (k : ℕ) (counts : List ℕ) (first : FirstRefusal) (place : ℕ) : Type 0 where
   pub reader : Reader
@@ -79,13 +84,14 @@ Searched form text counts first place Opening.Missing = figuresOf form text ≡ 
 
 module _ (form : Form) (r : Reader) (k n b : ℕ) where
   instep-answer : matchedWith form k b ≡ length (opening form) →
-      answerTo (lost form r k n) b ≡ record { answer = Answer.InStep (oneMore n); reader = started form }
-  unfolding answerTo answerLost
+      answerOf (lost form r k n) b ≡ record { answer = Answer.InStep (oneMore n); reader = started form }
+  unfolding answerLost
   instep-answer e = rw (eq-eqb (matchedWith form k b) (length (opening form)) e)
 
   skipped-answer : (matchedWith form k b ≡ length (opening form) → ⊥) →
-      answerTo (lost form r k n) b ≡ record { answer = Answer.Skipped; reader = lost form r (matchedWith form k b) (oneMore n) }
-  unfolding answerTo answerLost
+      answerOf (lost form r k n) b ≡
+      record { answer = Answer.Skipped; reader = lost form (recording 0 r) (matchedWith form k b) (oneMore n) }
+  unfolding answerLost
   skipped-answer e = rw (ne-eqb (matchedWith form k b) (length (opening form)) e)
 
 module _ (form : Form) (text counts : List ℕ) (first : FirstRefusal) where
@@ -126,14 +132,14 @@ module _ (form : Form) (text counts : List ℕ) (first : FirstRefusal) where
           rw (search-ends form text place k matched inside refl whole) (omega arith, omega arith, in-step-again next)
       by rest false e =
           let part : matched ≡ length (opening form) → ⊥ = eqb-false matched (length (opening form)) e in
-          let reader : Reader = lost form (c .reader) matched (oneMore (c .skipped)) in
+          let reader : Reader = lost form (recording 0 (c .reader)) matched (oneMore (c .skipped)) in
           let next : Counting form text counts first reader on =
           rw (← first-stays first place Answer.Skipped (λ n f. impossible (cc)))
           (counts-no-more (c .counting) (record { answer = Answer.Skipped; reader = reader }) inside
           (skipped-answer form (c .reader) k (c .skipped) b part) (λ figure. figure .not-skipped refl)) in
           rw (search-goes-on form text place k matched inside refl part)
           (later place (openingIn form matched on (drop on text))
-          (rest (record { reader = c .reader; skipped = oneMore (c .skipped); counting = next })))
+          (rest (record { reader = recording 0 (c .reader); skipped = oneMore (c .skipped); counting = next })))
 
 search-begins : (form : Form) (text : List ℕ) (place : ℕ) → place < length text →
     openingAfter form text place ≡ openingIn form (matchedWith form 0 (getD text place 0)) (place + 1) (drop (place + 1) text)
@@ -142,7 +148,7 @@ search-begins form text place inside = rw (lt-leb (length text) place inside)
 
 -- a byte is refused, and the search begins with it
 refused-search : {form : Form} {text counts : List ℕ} {first : FirstRefusal} {place : ℕ} (n : Refusal) (there : ℕ) →
-    RefusedAt text (Counting form text counts first) place n there →
+    RefusedAt text (CountingOn form text counts first) place n there →
     Searched form text (added counts refusedWord 1) (firstOf first (First n there)) (there + 1) (openingAfter form text there)
 refused-search {form} {text} {counts} {first} n there x =
     let b : ℕ = getD text there 0 in
@@ -156,21 +162,22 @@ refused-search {form} {text} {counts} {first} n there x =
       skipped = oneMore 0;
       counting =
           subst (λ (m : Form). Counting form text after (firstOf first (First n there)) (lost m r (matchedWith m 0 b) (oneMore 0)) (there + 1))
-          (x .holds .in-form) (counts-more (x .holds) (refuses n b r) inside (x .answers));
+          (x .holds .1 .in-form) (counts-more (x .holds .1) (refuses n b r) inside (x .answers));
     }))
 
 -- ---- an item that stops
 
 module _ {form : Form} {text cells counts : List ℕ} {first : FirstRefusal} {place : ℕ} (c : Counts form text cells counts first place)
-    (inside : place < length text) {i : Item} (is : itemAt form cells text place ≡ i) (stops : i .effect .word .0 ≡ refusedWord) where
+    (inside : place < length text) {i : Item} (is : itemAt form cells text place ≡ i) (not-below : refusedWord ≤ i .effect .word .0)
+    (no-opening : i .effect .word .0 ≡ openingWord → ⊥) where
   abbrev Stops : Type 0
-  Stops = Stopped text (Counting form text counts first) place i
+  Stops = Stopped text (CountingOn form text counts first) place i
 
-  stopped : Stops
-  stopped = good-stops (good c inside is) stops
+  stops : Stops
+  stops = stopped c inside is not-below no-opening
 
   pub stops-onward : place ≤ i .place
-  stops-onward = by stopped
+  stops-onward = by stops
     where
       by : Stops → place ≤ i .place
       by (refused-at n there e x) = rw e (x .from)
@@ -178,17 +185,17 @@ module _ {form : Form} {text cells counts : List ℕ} {first : FirstRefusal} {pl
 
   -- the text ends inside it
   pub ends-inside : length text ≤ i .place → figuresOf form text ≡ figuresFrom counts first EndWord.Inside
-  ends-inside past = by stopped
+  ends-inside past = by stops
     where
       by : Stops → figuresOf form text ≡ figuresFrom counts first EndWord.Inside
       by (refused-at n there e x) = absurd (omega (arith, x .inside, ap (λ (j : Item). j .place) e))
-      by (ends-inside-at there e x) = all-figures (x .holds) (omega (arith, x .at-end)) EndWord.Inside (x .end)
+      by (ends-inside-at there e x) = all-figures (x .holds .1) (omega (arith, x .at-end)) EndWord.Inside (x .end)
 
   -- its byte is refused
   pub refused-counts : i .place < length text → {after : List ℕ} {n : Refusal} {now-first : FirstRefusal} {o : Opening} →
       after ≡ added counts refusedWord 1 → n ≡ refusalOf (i .effect .value) → now-first ≡ firstOf first (First n (i .place)) →
       o ≡ openingAfter form text (i .place) → Searched form text after now-first (i .place + 1) o
-  refused-counts before-end is-after is-refusal is-first is-opening = rw (is-opening, is-first, is-refusal, is-after) (by stopped)
+  refused-counts before-end is-after is-refusal is-first is-opening = rw (is-opening, is-first, is-refusal, is-after) (by stops)
     where
       by : Stops →
           Searched form text (added counts refusedWord 1) (firstOf first (First (refusalOf (i .effect .value)) (i .place))) (i .place + 1)

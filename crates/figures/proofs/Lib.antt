@@ -1,5 +1,6 @@
 pub mod AddedCounts
 pub mod CountingByItems
+pub mod CountingOverOpenings
 pub mod CountingOverRefusals
 pub mod RestToCount
 pub mod RunsCount

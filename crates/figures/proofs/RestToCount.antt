@@ -1,5 +1,5 @@
 -- While a text is read, byte by byte: an answer that has a figure is counted, another one changes no count, and at the end of the
--- text everything is counted.
+-- text everything is counted. What the reader has recorded of an opening changes nothing of it.
 use Prim.Native.Nat.{ℕ, zero, suc, _+_, _<_, _≤_}
 use mathlib.Core.Path.{_≡_, refl, sym, ap, _∙_, subst}
 use mathlib.Core.Bool.{Bool, true, false}
@@ -19,6 +19,7 @@ use Rattle.paper.specs.Answering.{answerTo, endOfText}
 use Rattle.paper.specs.Texts.{Placed, readerAfter, answersFrom, answersOf, endWord}
 use Rattle.paper.specs.Surveying.{howMany, refusalOr, firstRefusal, firstOf, figuresOf}
 use Rattle.paper.specs.declared.Form.{Form}
+use Rattle.paper.specs.declared.Element.{Element}
 use Rattle.paper.specs.declared.Reader.{Reader}
 use Rattle.paper.specs.declared.EndWord.{EndWord}
 use Rattle.paper.specs.declared.Refusal.{Refusal}
@@ -26,7 +27,8 @@ use Rattle.paper.specs.declared.Answer.{Answer}
 use Rattle.paper.specs.declared.Answered.{Answered}
 use Rattle.paper.specs.declared.FirstRefusal.{FirstRefusal}
 use Rattle.paper.specs.declared.FirstRefusal.the-variants.{Never, First}
-use Rattle.paper.proofs.LawfulAnswers.{form-on}
+use Rattle.paper.proofs.LawfulAnswers.{form-on, shows-on}
+use Rattle.paper.proofs.AnswersWithoutTheRecord.{answerOf, recordOf, answers-alike, reader-alike}
 use Rattle.items.proofs.ItemsByBytes.{NoRefusal}
 use Rattle.figures.specs.Counting.{added, Fits, HasFigure, Counting, figuresFrom}
 use Rattle.figures.proofs.AddedCounts.{part, entry, fits-more}
@@ -53,7 +55,7 @@ about (Answer.Refused n) = (omega arith, refusal n refl)
 about Answer.Skipped = (omega arith, other (λ l at. refl))
 about (Answer.InStep n) = (omega arith, other (λ l at. refl))
 
-pub word-below : (a : Answer) → wordOf a < 11
+word-below : (a : Answer) → wordOf a < 11
 word-below a = about a .0
 
 first-last : (first : FirstRefusal) → firstOf first Never ≡ first
@@ -89,30 +91,57 @@ pub counting-starts : (form : Form) (text : List ℕ) → length text ≤ longes
 counting-starts form text short = record {
   fits = record { short = short; within = omega arith; words = refl; bounded = λ w. rw (zeros 11 w) (omega arith) };
   in-form = refl;
+  gr-shows-g1 = λ seven. refl;
   counted = λ w figure. rw (zeros 11 w) (omega arith);
   refused = refl;
   ends = refl;
 }
 
-one-and : (t : Bool) (n : ℕ) → (t gives 1 or 0) + n ≡ (t gives suc n or n)
+pub one-and : (t : Bool) (n : ℕ) → (t gives 1 or 0) + n ≡ (t gives suc n or n)
 one-and true n = omega arith
 one-and false n = omega arith
 
 module _ {form : Form} {text counts : List ℕ} {first : FirstRefusal} {r : Reader} {place : ℕ}
     (c : Counting form text counts first r place) where
-  -- ---- a byte
+  -- ---- a byte: what the reader has recorded tells neither of the answers nor of the end
 
-  module _ (a : Answered) (inside : place < length text) (answers : answerTo r (getD text place 0) ≡ a) where
+  module _ (a : Answered) (inside : place < length text) (answers : answerOf r (getD text place 0) ≡ a) where
+    abbrev next : Answered
+    next = answerOf r (getD text place 0)
+
+    abbrev after-it : List ℕ
+    after-it = drop (suc place) text
+
     abbrev rest : List Placed
-    rest = answersFrom (suc place) (a .reader) (drop (suc place) text)
+    rest = answersFrom (suc place) (a .reader) after-it
 
-    next-answers : answersFrom place r (drop place text) ≡ record { offset = place; answer = a .answer } ∷ rest
-    next-answers = rw (drop-cons text place 0 inside, answers)
+    abbrev with-answer : Answer → List Placed → List Placed
+    with-answer x l = record { offset = place; answer = x } ∷ l
 
-    next-reader : readerAfter r (drop place text) ≡ readerAfter (a .reader) (drop (suc place) text)
-    next-reader =
-        ap (readerAfter r) (drop-cons text place 0 inside) ∙
-        ap (λ (x : Answered). readerAfter (x .reader) (drop (suc place) text)) answers
+    next-answers : answersFrom place r (drop place text) ≡ with-answer (a .answer) rest
+    unfolding answerTo
+    next-answers =
+        ap (answersFrom place r) (drop-cons text place 0 inside) ∙
+        ap (with-answer (next .answer))
+        (answers-alike after-it (suc place) (recordOf r (getD text place 0)) (next .reader .gone) (next .reader)) ∙
+        ap (λ (x : Answered). with-answer (x .answer) (answersFrom (suc place) (x .reader) after-it)) answers
+
+    next-end : endOfText (readerAfter r (drop place text)) ≡ endOfText (readerAfter (a .reader) after-it)
+    unfolding answerTo
+    next-end =
+        ap (λ (l : List ℕ). endOfText (readerAfter r l)) (drop-cons text place 0 inside) ∙
+        ap endOfText (reader-alike after-it (recordOf r (getD text place 0)) (next .reader .gone) (next .reader)) ∙
+        ap (λ (x : Answered). endOfText (readerAfter (x .reader) after-it)) answers
+
+    next-form : a .reader .form ≡ r .form
+    unfolding answerTo
+    next-form = ap (λ (x : Answered). x .reader .form) (sym answers) ∙ form-on r (getD text place 0)
+
+    next-shows : a .reader .form ≡ Form.Seven → a .reader .gr ≡ Element.G1
+    unfolding answerTo
+    next-shows =
+        subst (λ (x : Answered). x .reader .form ≡ Form.Seven → x .reader .gr ≡ Element.G1) answers
+        (shows-on r (getD text place 0) (c .gr-shows-g1))
 
     goes-on : (after : List ℕ) → Fits text after (place + 1) →
         ((w : ℕ) → HasFigure w → getD after w 0 ≡ getD counts w 0 + part (wordOf (a .answer)) 1 w) →
@@ -123,7 +152,8 @@ module _ {form : Form} {text counts : List ℕ} {first : FirstRefusal} {r : Read
         rw (add-one place)
         (record {
           fits = f;
-          in-form = ap (λ (x : Answered). x .reader .form) (sym answers) ∙ form-on r (getD text place 0) ∙ c .in-form;
+          in-form = next-form ∙ c .in-form;
+          gr-shows-g1 = next-shows;
           counted = λ w figure.
               let e = one w figure in
               let d = one-and (eqb (wordOf (a .answer)) w) (howMany w rest) in
@@ -133,7 +163,7 @@ module _ {form : Form} {text counts : List ℕ} {first : FirstRefusal} {r : Read
           refused =
               first-more first (firstRefusal rest) place (a .answer) ∙
               ap (λ (x : List Placed). firstOf first (firstRefusal x)) (sym next-answers) ∙ c .refused;
-          ends = ap endOfText (sym next-reader) ∙ c .ends;
+          ends = sym next-end ∙ c .ends;
         })
 
     pub counts-more : Counting form text (added counts (wordOf (a .answer)) 1) (firstOf first (refusalOr Never place (a .answer)))

@@ -41,10 +41,10 @@ module _ (form : Form) (text cells : List ℕ) (ground : singleIn cells ≡ 0) w
       by : LaneItem form cells text place →
           Counts form text cells (added counts (wordIn (hasSpace cells) (getD text place 0)) 1) first (place + 1)
       by (control low is) =
-          rw (word-below (hasSpace cells) (getD text place 0) low) (plain-counts c inside ground is (λ e. omega arith))
+          rw (word-below (hasSpace cells) (getD text place 0) low) (plain-counts c inside ground is (omega arith))
       by (space-sign same of-94 is) =
-          rw (ap isOf94 of-94, word-of-space (getD text place 0) same) (plain-counts c inside ground is (λ e. omega arith))
-      by (character x) = rw (x .word-is) (plain-counts c inside ground (x .reads) (λ e. omega arith))
+          rw (ap isOf94 of-94, word-of-space (getD text place 0) same) (plain-counts c inside ground is (omega arith))
+      by (character x) = rw (x .word-is) (plain-counts c inside ground (x .reads) (omega arith))
 
   -- ---- SI, SPACE and SO
 
@@ -54,12 +54,12 @@ module _ (form : Form) (text cells : List ℕ) (ground : singleIn cells ≡ 0) w
       let g = gap-items form cells text place (c .reader) (c .stands) ground gaps ahead in
       let inside = g .inside in
       let one : Counts form text (afterIn cells) (added counts shiftWord 1) first (place + 1) =
-      item-counts c (omega arith) (g .shift-in) (λ e. omega arith) in
+      item-counts c (omega arith) (g .shift-in) (omega arith) in
       let after-space : place + 1 + 1 ≡ place + 2 = omega arith in
       let two : Counts form text (afterSpace cells) (added (added counts shiftWord 1) spaceWord 1) first (place + 2) =
-      rw (← after-space) (item-counts one (omega arith) (g .space-sign) (λ e. omega arith)) in
+      rw (← after-space) (item-counts one (omega arith) (g .space-sign) (omega arith)) in
       let after-all : place + 2 + 1 ≡ place + 3 = omega arith in
-      rw (← after-all) (in-state (g .same) (item-counts two (omega arith) (g .shift-out) (λ e. omega arith)))
+      rw (← after-all) (in-state (g .same) (item-counts two (omega arith) (g .shift-out) (omega arith)))
 
 -- a run goes on over its letter
 pub beyond : (form : Form) (cells : List ℕ) {lane : Lane} (text : List ℕ) (place here : ℕ) → place ≤ here → place < length text →

@@ -1,6 +1,6 @@
 -- No rule of the paper: for the contracts of private functions.
 -- While a text is read: what is counted so far and what the rest of the text has make what the whole text has, for every word that has
--- a figure; likewise the first refusal and the end. No count passes the number of the bytes so far.
+-- a figure; likewise the first refusal and the end. No count passes the number of the bytes so far. In 7-bit form GR shows G1.
 use Prim.Native.Nat.{ℕ, zero, suc, _+_, _≤_}
 use mathlib.Core.Path.{_≡_}
 use mathlib.Core.List.{List}
@@ -14,6 +14,7 @@ use Rattle.paper.specs.Answering.{endOfText}
 use Rattle.paper.specs.Texts.{readerAfter, answersFrom, answersOf, endWord}
 use Rattle.paper.specs.Surveying.{howMany, firstRefusal, firstOf}
 use Rattle.paper.specs.declared.Form.{Form}
+use Rattle.paper.specs.declared.Element.{Element}
 use Rattle.paper.specs.declared.Reader.{Reader}
 use Rattle.paper.specs.declared.EndWord.{EndWord}
 use Rattle.paper.specs.declared.Figures.{Figures}
@@ -44,6 +45,7 @@ pub record HasFigure (w : ℕ) : Type 0 where
 pub record Counting (form : Form) (text counts : List ℕ) (first : FirstRefusal) (r : Reader) (place : ℕ) : Type 0 where
   pub fits : Fits text counts place
   pub in-form : r .form ≡ form
+  pub gr-shows-g1 : r .form ≡ Form.Seven → r .gr ≡ Element.G1
   pub counted : (w : ℕ) → HasFigure w →
       getD counts w 0 + howMany w (answersFrom place r (drop place text)) ≡ howMany w (answersOf form text)
   pub refused : firstOf first (firstRefusal (answersFrom place r (drop place text))) ≡ firstRefusal (answersOf form text)

@@ -13,6 +13,7 @@ use escapes::effect::REFUSED_WORD;
 use escapes::effect::SHIFT_WORD;
 use escapes::effect::SPACE_WORD;
 use escapes::effect::WORDS;
+use items::item::OPENING_WORD;
 use items::item::read_item;
 use items::letter::is_letter;
 use items::state::NONE;
@@ -39,6 +40,11 @@ ghost use Rattle.paper.specs.Refusals.{longestText};
 ghost use Rattle.paper.specs.Surveying.{firstOf, figuresOf, surveyOf};
 ghost use Rattle.paper.specs.declared.FirstRefusal.the-variants.{First};
 ghost use Rattle.figures.specs.Counting.{endAfter, figuresFrom};
+
+// What an opening has.
+const DESIGNATIONS_OF_OPENING: usize = 6;
+
+const SHIFTS_OF_OPENING: usize = 2;
 
 // The figures of a text in a form; 8 for one that is longer than 65,536 bytes.
 pub fn survey(form: Form, text: &[u8]) -> Surveyed
@@ -114,9 +120,14 @@ fn count(form: Form, text: &[u8]) -> Figures
             let effect = item.effect;
             let word = effect.word;
             let there = item.place;
-            if word.0 != REFUSED_WORD {
+            if word.0 < REFUSED_WORD {
                 add(&mut counts, word.0, 1);
                 change(&mut state, effect);
+                place = there;
+            } else if word.0 == OPENING_WORD {
+                add(&mut counts, DESIGNATE_WORD, DESIGNATIONS_OF_OPENING);
+                add(&mut counts, SHIFT_WORD, SHIFTS_OF_OPENING);
+                state = starting();
                 place = there;
             } else if there >= text.len() {
                 return figures_of(&counts, first, EndWord::Inside);

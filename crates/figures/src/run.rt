@@ -32,6 +32,9 @@ ghost use Rattle.items.specs.Letters.{isLetter};
 ghost use Rattle.lane.specs.Lanes.{laneOf, hasSpace, wordIn};
 ghost use Rattle.figures.specs.Counting.{added, upTo, Fits, Counts, GoesOn};
 
+// How many bytes of a run are counted one by one before blocks are tried: most words are shorter.
+const SINGLY: usize = 12;
+
 // Whether 2/0 is SPACE.
 fn has_space(state: &[u8; CELLS]) -> bool
     ensures { λ r. ⌜ r ≡ hasSpace (now (state .entry)) ⌝ }
@@ -127,7 +130,7 @@ pub(crate) fn count_run(
     let mut start = place;
     while here < text.len() {
         if byte_ahead(lane, text, here) {
-            if here - start == BLOCK {
+            if here - start == SINGLY {
                 return count_blocks(lane, space, text, here, counts);
             }
             let word = word_of(space, text[here]);

@@ -10,7 +10,6 @@ use Rattle.paper.specs.Choice.{_gives_or_}
 use Rattle.paper.specs.CodeTable.{formHas}
 use Rattle.paper.specs.Sets.{bytesOf, setIn}
 use Rattle.paper.specs.Characters.{says, waits, positionIn, byteIn, bytesSoFar, withByte, character, ofCharacter}
-use Rattle.paper.specs.Answering.{answerTo}
 use Rattle.paper.specs.Results.{elementNumber, positionValues}
 use Rattle.paper.specs.declared.Form.{Form}
 use Rattle.paper.specs.declared.Kind.{Kind}
@@ -25,6 +24,7 @@ use Rattle.paper.specs.declared.Within.{Within}
 use Rattle.paper.specs.declared.Reader.{Reader}
 use Rattle.paper.specs.declared.Refusal.{Refusal}
 use Rattle.paper.specs.declared.Answer.{Answer}
+use Rattle.paper.proofs.AnswersWithoutTheRecord.{answerOf}
 use Rattle.paper.proofs.Choices.{impossible, gives-by}
 use Rattle.charsets.specs.Sizes.{sizeOfSet, kindOf, countOf}
 use Rattle.charsets.proofs.SizesKept.{kind-kept, count-kept}
@@ -77,9 +77,9 @@ module _ (m : Form) (text : List ℕ) (P : Reader → ℕ → Type 0) (on : Wait
   -- it is a position of the set, or it is refused
   by-set-byte : (e : Element) (a : GraphicArea) (ps : PositionBytes) (place : ℕ) (i : Item) → Came (inside-of e a ps) place →
       place < length text → (k : SetByte) →
-      answerTo (reader (inside-of e a ps)) (getD text place 0) ≡
+      answerOf (reader (inside-of e a ps)) (getD text place 0) ≡
       ofCharacter k e (set e) a (withByte ps (positionIn a (getD text place 0))) (getD text place 0) (reader (inside-of e a ps)) →
-      (answerTo (reader (inside-of e a ps)) (getD text place 0) ≡
+      (answerOf (reader (inside-of e a ps)) (getD text place 0) ≡
       character e (set e) a (withByte ps (positionIn a (getD text place 0))) (reader (inside-of e a ps)) → Right i) →
       Right (takenOr (refusalOfByte k) place i)
   by-set-byte e a ps place i p below SetByte.OfSpace is right = stops-at m text P on t gl gr single left start Refusal.NotOfSet p below is
@@ -89,7 +89,7 @@ module _ (m : Form) (text : List ℕ) (P : Reader → ℕ → Type 0) (on : Wait
       stops-at m text P on t gl gr single left start Refusal.AnotherArea p below is
 
   later-right : (e : Element) (a : GraphicArea) (ps : PositionBytes) (place : ℕ) (i : Item) → Came (inside-of e a ps) place →
-      (place < length text → answerTo (reader (inside-of e a ps)) (getD text place 0) ≡
+      (place < length text → answerOf (reader (inside-of e a ps)) (getD text place 0) ≡
       character e (set e) a (withByte ps (positionIn a (getD text place 0))) (reader (inside-of e a ps)) → Right i) →
       Right (takenOr (laterAt m a (set e .kind) text place) place i)
   unfolding laterAt
@@ -110,7 +110,7 @@ module _ (m : Form) (text : List ℕ) (P : Reader → ℕ → Type 0) (on : Wait
 
   -- a character's bytes so far are all, or not yet
   all-bytes : {w : Within} {place : ℕ} → Came w place → place < length text → (e : Element) (a : GraphicArea) (ps : PositionBytes) →
-      answerTo (reader w) (getD text place 0) ≡ character e (set e) a ps (reader w) →
+      answerOf (reader w) (getD text place 0) ≡ character e (set e) a ps (reader w) →
       ltb (bytesSoFar ps) (bytesOf (set e .count)) ≡ false → Right (characterOf (elementNumber e) (positionValues ps) (place + 1))
   unfolding character
   all-bytes {w} p below e a ps is whole =
@@ -118,12 +118,12 @@ module _ (m : Form) (text : List ℕ) (P : Reader → ℕ → Type 0) (on : Wait
       (is ∙ ap (λ (t : Bool). t gives waits (inside-of e a ps) (reader w) or says (Answer.Char e (set e) ps) (reader w)) whole)
 
   not-yet : {w : Within} {place : ℕ} → Came w place → place < length text → (e : Element) (a : GraphicArea) (ps : PositionBytes) →
-      answerTo (reader w) (getD text place 0) ≡ character e (set e) a ps (reader w) →
+      answerOf (reader w) (getD text place 0) ≡ character e (set e) a ps (reader w) →
       ltb (bytesSoFar ps) (bytesOf (set e .count)) ≡ true → Came (inside-of e a ps) (place + 1)
   unfolding character
   not-yet {w} p below e a ps is more =
       waits-on m text P on t gl gr single left start p below (inside-of e a ps)
-      (is ∙ ap (λ (t : Bool). t gives waits (inside-of e a ps) (reader w) or says (Answer.Char e (set e) ps) (reader w)) more)
+      (is ∙ ap (λ (t : Bool). t gives waits (inside-of e a ps) (reader w) or says (Answer.Char e (set e) ps) (reader w)) more) tt
 
   three-right : (e : Element) (a : GraphicArea) (first place : ℕ) → set e .count ≡ Count.Three →
       Came (inside-of e a (PositionBytes.One first)) place →
@@ -139,7 +139,7 @@ module _ (m : Form) (text : List ℕ) (P : Reader → ℕ → Type 0) (on : Wait
       (ap (λ (n : Count). ltb 3 (bytesOf n)) three)))
 
   by-count : {w : Within} {place : ℕ} → Came w place → place < length text → (e : Element) (a : GraphicArea) (first : ℕ) →
-      answerTo (reader w) (getD text place 0) ≡ character e (set e) a (PositionBytes.One first) (reader w) →
+      answerOf (reader w) (getD text place 0) ≡ character e (set e) a (PositionBytes.One first) (reader w) →
       (n : Count) → set e .count ≡ n → Right (byCount n m a (set e .kind) (elementNumber e) first text place)
   by-count p below e a first is Count.One one =
       all-bytes p below e a (PositionBytes.One first) is (ap (λ (n : Count). ltb 1 (bytesOf n)) one)
@@ -155,7 +155,7 @@ module _ (m : Form) (text : List ℕ) (P : Reader → ℕ → Type 0) (on : Wait
 
   -- a character from its first byte on
   pub whole-right : {w : Within} {place : ℕ} → Came w place → place < length text → (e : Element) (a : GraphicArea) (b : ℕ) →
-      answerTo (reader w) (getD text place 0) ≡ character e (set e) a (PositionBytes.One (positionIn a b)) (reader w) →
+      answerOf (reader w) (getD text place 0) ≡ character e (set e) a (PositionBytes.One (positionIn a b)) (reader w) →
       Right (characterAt m (elementNumber e) (sizeIn known (elementNumber e)) a b text place)
   whole-right {w} {place} p below e a b is =
       let v : ℕ = elementNumber e in

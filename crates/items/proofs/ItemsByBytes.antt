@@ -5,10 +5,12 @@ use mathlib.Core.Path.{_≡_, refl, sym, ap, _∙_}
 use mathlib.Core.Bool.{true, false}
 use mathlib.Core.List.{List}
 use native.Mathlib.Omega.{arith}
-use lib.ListN.{length, getD}
+use lib.ListN.{length, getD, drop}
 use Rattle.paper.specs.CodeTable.{formHas, bit8}
+use Rattle.paper.specs.Starting.{opening}
+use Rattle.paper.specs.Searching.{beginsWith}
 use Rattle.paper.specs.Characters.{says, waits, refuses}
-use Rattle.paper.specs.Answering.{answerTo, answerInStep, answerWithin, endWithin, endOfText}
+use Rattle.paper.specs.Answering.{answerInStep, answerWithin, endWithin, endOfText}
 use Rattle.paper.specs.Results.{elementNumber, positionValues, wordOf, refusedWord}
 use Rattle.paper.specs.WrittenForms.{bytesOfAnswer}
 use Rattle.paper.specs.declared.Form.{Form}
@@ -17,19 +19,22 @@ use Rattle.paper.specs.declared.Element.{Element}
 use Rattle.paper.specs.declared.EndWord.{EndWord}
 use Rattle.paper.specs.declared.Sets.{Sets}
 use Rattle.paper.specs.declared.Within.{Within}
+use Rattle.paper.specs.declared.Standing.{Standing}
 use Rattle.paper.specs.declared.Reader.{Reader}
 use Rattle.paper.specs.declared.Refusal.{Refusal}
 use Rattle.paper.specs.declared.Answer.{Answer}
+use Rattle.paper.proofs.AnswersWithoutTheRecord.{answerOf}
+use Rattle.paper.proofs.OpeningsTakenWhole.{Elsewhere}
 use Rattle.paper.proofs.ReadingOn.{readerWith, in-form}
 use Rattle.escapes.specs.Effects.{plain}
 use Rattle.items.specs.States.{changed, Single, none, cellsOf, Stands}
-use Rattle.items.specs.Items.{Item, refused}
+use Rattle.items.specs.Items.{Item, refused, openingItem}
 
 -- what holds of a reader at a place goes on over a byte that is answered with nothing yet
 abbrev pub WaitsOn : List ℕ → (Reader → ℕ → Type 0) → Type 0
 WaitsOn text P =
     (r next : Reader) (place : ℕ) → P r place → place < length text →
-    answerTo r (getD text place 0) ≡ record { answer = Answer.NothingYet; reader = next } → P next (place + 1)
+    answerOf r (getD text place 0) ≡ record { answer = Answer.NothingYet; reader = next } → Elsewhere (next .standing) → P next (place + 1)
 
 abbrev pub NoRefusal : Answer → Type 0
 NoRefusal a = (n : Refusal) → a ≡ Answer.Refused n → ⊥
@@ -76,7 +81,7 @@ pub record LastByte (text : List ℕ) (P : Reader → ℕ → Type 0) (start : �
   pub sets-are : reader .sets ≡ t
   pub answer : Answer
   pub next : Reader
-  pub answers : answerTo reader (getD text place 0) ≡ record { answer = answer; reader = next }
+  pub answers : answerOf reader (getD text place 0) ≡ record { answer = answer; reader = next }
   pub no-refusal : NoRefusal answer
   pub word-is : i .effect .word .0 ≡ wordOf answer
   pub bytes-are : i .bytes ≡ saidBytes answer
@@ -89,7 +94,7 @@ pub record RefusedAt (text : List ℕ) (P : Reader → ℕ → Type 0) (start : 
   pub from : start ≤ there
   pub holds : P reader there
   pub inside : there < length text
-  pub answers : answerTo reader (getD text there 0) ≡ refuses n (getD text there 0) reader
+  pub answers : answerOf reader (getD text there 0) ≡ refuses n (getD text there 0) reader
 
 -- the text ends at a place inside the item
 pub record EndsInsideAt (text : List ℕ) (P : Reader → ℕ → Type 0) (start there : ℕ) : Type 0 where
@@ -107,6 +112,12 @@ pub data Stopped (text : List ℕ) (P : Reader → ℕ → Type 0) (start : ℕ)
 pub data Good (text : List ℕ) (P : Reader → ℕ → Type 0) (start : ℕ) (t : Sets) (cells : List ℕ) (i : Item) : Type 0 where
   reads : LastByte text P start t cells i → Good text P start t cells i
   stops : Stopped text P start i → Good text P start t cells i
+
+-- an opening stands at a place, and the reader is on the ground there
+pub record Opens (m : Form) (text : List ℕ) (r : Reader) (start : ℕ) (i : Item) : Type 0 where
+  pub ground : r .standing ≡ Standing.InStep Within.Ground
+  pub begins : beginsWith (drop start text) (opening m) ≡ true
+  pub is : i ≡ openingItem (start + length (opening m))
 
 -- by its word it is one of the two
 
@@ -157,22 +168,22 @@ module _ (m : Form) (text : List ℕ) (P : Reader → ℕ → Type 0) (on : Wait
     pub from : start ≤ place
     pub within : place ≤ length text
 
-  pub in-form-here : (w : Within) (b : ℕ) → formHas m b ≡ true → answerTo (here w) b ≡ answerWithin w b (here w)
+  pub in-form-here : (w : Within) (b : ℕ) → formHas m b ≡ true → answerOf (here w) b ≡ answerWithin w b (here w)
   in-form-here w b e = in-form m t gl gr w b e
 
-  pub not-in-form : (w : Within) (b : ℕ) → formHas m b ≡ false → answerTo (here w) b ≡ refuses Refusal.ByteOfEightBits b (here w)
-  unfolding answerTo answerInStep
+  pub not-in-form : (w : Within) (b : ℕ) → formHas m b ≡ false → answerOf (here w) b ≡ refuses Refusal.ByteOfEightBits b (here w)
+  unfolding answerInStep
   not-in-form w b e = rw e
 
   -- nothing yet
   pub waits-on : {w : Within} {place : ℕ} → At w place → place < length text → (v : Within) →
-      answerTo (here w) (byte place) ≡ waits v (here w) → At v (place + 1)
-  waits-on {w} {place} p inside v is =
-      record { holds = on (here w) (here v) place (p .holds) inside is; from = omega (arith, p .from); within = omega arith }
+      answerOf (here w) (byte place) ≡ waits v (here w) → Elsewhere (Standing.InStep v) → At v (place + 1)
+  waits-on {w} {place} p inside v is elsewhere =
+      record { holds = on (here w) (here v) place (p .holds) inside is elsewhere; from = omega (arith, p .from); within = omega arith }
 
   -- an answer that is no refusal
   pub ends-well : {w : Within} {place : ℕ} {i : Item} → At w place → place < length text → i .place ≡ place + 1 →
-      (a : Answer) (next : Reader) → answerTo (here w) (byte place) ≡ record { answer = a; reader = next } → NoRefusal a →
+      (a : Answer) (next : Reader) → answerOf (here w) (byte place) ≡ record { answer = a; reader = next } → NoRefusal a →
       i .effect .word .0 ≡ wordOf a → i .bytes ≡ saidBytes a → Said a (i .effect .value) → Stands (changed (i .effect) cells) next → IsGood i
   ends-well {w} {place} p inside ends a next is no-refusal word bytes value has = reads (record {
     reader = here w;
@@ -194,15 +205,15 @@ module _ (m : Form) (text : List ℕ) (P : Reader → ℕ → Type 0) (on : Wait
 
   -- one that leaves the reader on the ground
   pub says-well : {w : Within} {place : ℕ} → At w place → place < length text → (a : Answer) (v : ℕ) → NoRefusal a → Said a v →
-      answerTo (here w) (byte place) ≡ says a (here w) →
+      answerOf (here w) (byte place) ≡ says a (here w) →
       IsGood (record { effect = plain (wordOf a) v; bytes = saidBytes a; place = place + 1 })
   says-well p inside a v no-refusal said is =
       ends-well p inside refl a (here Within.Ground) is no-refusal refl refl said
-      (record { single = none; left = v; has = refl; stands = refl })
+      (record { single = none; left = v; has = refl; stands = refl; nothing-gone = refl })
 
   -- a refusal
   pub stops-at : {w : Within} {place : ℕ} (n : Refusal) → At w place → place < length text →
-      answerTo (here w) (byte place) ≡ refuses n (byte place) (here w) → IsGood (refused n place)
+      answerOf (here w) (byte place) ≡ refuses n (byte place) (here w) → IsGood (refused n place)
   stops-at {w} {place} n p inside is =
       stops (refused-at n place refl (record { reader = here w; from = p .from; holds = p .holds; inside = inside; answers = is }))
 

@@ -1,18 +1,21 @@
 -- An item is right, whatever it is: by where the reader stands and by the byte's area.
 use Prim.Native.Nat.{ℕ, _+_, _-_, _≤_, _<_}
 use mathlib.Core.Path.{_≡_, refl, sym, ap, _∙_, subst}
-use mathlib.Core.Bool.{true, false}
+use mathlib.Core.Bool.{Bool, true, false}
+use mathlib.Core.Logic.{_⊎_, inl, inr}
 use mathlib.Core.List.{List, []}
 use native.Mathlib.Omega.{arith}
 use borrow.Author.Tests.{lt-leb, le-leb, lt-ltb, le-ltb, eqb-true, ne-eqb}
 use lib.Dec.{eqb}
-use lib.ListN.{length, getD}
+use lib.ListN.{length, getD, drop}
 use Rattle.paper.specs.Choice.{_gives_or_, between}
 use Rattle.paper.specs.CodeTable.{areaOf, formHas, bit8, so, si, esc}
+use Rattle.paper.specs.Starting.{opening}
+use Rattle.paper.specs.Searching.{beginsWith}
 use Rattle.paper.specs.Sets.{space, delete, setIn, setByte}
 use Rattle.paper.specs.Sequences.{c1Function}
 use Rattle.paper.specs.Characters.{waits, shifts, says, positionIn, byteIn, c0Byte, ofCharacter, firstInGL}
-use Rattle.paper.specs.Answering.{answerTo, groundAt}
+use Rattle.paper.specs.Answering.{groundAt}
 use Rattle.paper.specs.Results.{elementNumber, spaceWord, deleteWord}
 use Rattle.paper.specs.declared.Area.{Area}
 use Rattle.paper.specs.declared.Form.{Form}
@@ -27,15 +30,19 @@ use Rattle.paper.specs.declared.Intermediates.{Intermediates}
 use Rattle.paper.specs.declared.PositionBytes.{PositionBytes}
 use Rattle.paper.specs.declared.Shift.{Shift}
 use Rattle.paper.specs.declared.Within.{Within}
+use Rattle.paper.specs.declared.Standing.{Standing}
 use Rattle.paper.specs.declared.Reader.{Reader}
 use Rattle.paper.specs.declared.Refusal.{Refusal}
 use Rattle.paper.specs.declared.Answer.{Answer}
+use Rattle.paper.proofs.AnswersWithoutTheRecord.{answerOf}
 use Rattle.paper.proofs.Choices.{impossible, gives-by}
-use Rattle.items.specs.States.{sizeIn, elementOf, Single, none, one, singleNumber, withinOf, Stands}
+use Rattle.paper.proofs.OpeningsTakenWhole.{Elsewhere}
+use Rattle.items.specs.States.{singleIn, sizeIn, elementOf, Single, none, one, singleNumber, withinOf, cellsOf, Stands}
 use Rattle.items.specs.Items.{Item, refused, controlAt, graphicArea, elementIn, notOfSetAt, bySetByte, graphicIn, graphicAt, isControl}
-use Rattle.items.specs.Items.{controlOrSequence, itemOfByte, itemAt}
+use Rattle.items.specs.Items.{controlOrSequence, itemOfByte, opensAt, itemAt}
 use Rattle.items.proofs.AreasOfBytes.{c0-bound, gl-bound, c1-bound, gr-bound}
-use Rattle.items.proofs.ItemsByBytes.{WaitsOn, Good, here, cells, IsGood, At, in-form-here, not-in-form, waits-on, says-well, stops-at}
+use Rattle.items.proofs.ItemsByBytes.{WaitsOn, Good, Opens}
+use Rattle.items.proofs.ItemsByBytes.{here, cells, IsGood, At, in-form-here, not-in-form, waits-on, says-well, stops-at}
 use Rattle.items.proofs.SequencesAsWritten.{of-function}
 use Rattle.items.proofs.SequencesGoOn.{shift-right, means-right, after-escape}
 use Rattle.items.proofs.CharactersGoOn.{kind-in, whole-right}
@@ -119,18 +126,18 @@ module _ (m : Form) (text : List ℕ) (P : Reader → ℕ → Type 0) (on : Wait
     -- ---- a control on the ground
 
     module _ (p : Came Within.Ground) (has : formHas m b ≡ true) where
-      reads-in : (a : Area) → areaOf b ≡ a → answerTo ground b ≡ groundAt a b ground
+      reads-in : (a : Area) → areaOf b ≡ a → answerOf ground b ≡ groundAt a b ground
       reads-in a e =
           in-form-here m text P on t gl gr single left place Within.Ground b has ∙ ap (λ (a : Area). groundAt a b ground) e
 
       of-c0 : areaOf b ≡ Area.C0 → Right (controlOrSequence m b text place)
       unfolding controlOrSequence controlAt
       of-c0 area =
-          let is : answerTo ground b ≡ c0Byte b ground = reads-in Area.C0 area in
+          let is : answerOf ground b ≡ c0Byte b ground = reads-in Area.C0 area in
           let low : b < bit8 = c0-bound b area in
           gives-by Right (eqb b esc)
           (λ e. after-escape m text P on t gl gr single left place (place + 1)
-          (waits-on m text P on t gl gr single left place p inside (Within.Sequence Intermediates.None) (is ∙ c0-escape b ground e)))
+          (waits-on m text P on t gl gr single left place p inside (Within.Sequence Intermediates.None) (is ∙ c0-escape b ground e) tt))
           (λ no-esc. rw (lt-leb bit8 b low)
           (gives-by Right (eqb b so)
           (λ e. shift-right m text P on t gl gr single left place Within.Ground place p inside Shift.LS1 (is ∙ c0-so b ground no-esc e))
@@ -149,7 +156,7 @@ module _ (m : Form) (text : List ℕ) (P : Reader → ℕ → Type 0) (on : Wait
 
       -- ---- a byte of GL on the ground
 
-      in-gl : b < bit8 → (k : SetByte) → Is b k → answerTo ground b ≡ firstInGL k gl (setIn t gl) b ground →
+      in-gl : b < bit8 → (k : SetByte) → Is b k → answerOf ground b ≡ firstInGL k gl (setIn t gl) b ground →
           Right (bySetByte k m 0 GraphicArea.GL (elementNumber gl) (sizeIn known (elementNumber gl)) b text place)
       unfolding notOfSetAt
       in-gl low SetByte.OfSpace e is =
@@ -165,7 +172,7 @@ module _ (m : Form) (text : List ℕ) (P : Reader → ℕ → Type 0) (on : Wait
 
     first-right : {w : Within} → Came w → (u : ℕ) (a : GraphicArea) (e : Element) →
         ((word : ℕ) → notOfSetAt u b word place (place + 1) ≡ refused Refusal.NotOfSet place) → (k : SetByte) →
-        answerTo (reader w) b ≡ ofCharacter k e (setIn t e) a (PositionBytes.One (positionIn a b)) b (reader w) →
+        answerOf (reader w) b ≡ ofCharacter k e (setIn t e) a (PositionBytes.One (positionIn a b)) b (reader w) →
         Right (bySetByte k m u a (elementNumber e) (sizeIn known (elementNumber e)) b text place)
     first-right p u a e not-of-set SetByte.OfSpace is =
         subst Right (sym (not-of-set spaceWord)) (stops-at m text P on t gl gr single left place Refusal.NotOfSet p inside is)
@@ -224,17 +231,57 @@ module _ (m : Form) (text : List ℕ) (P : Reader → ℕ → Type 0) (on : Wait
         (λ lacks. stops-at m text P on t gl gr single left place Refusal.ByteOfEightBits p inside
         (not-in-form m text P on t gl gr single left place (Within.SingleShift e) b lacks)))
 
-    item-right : Came (withinOf single) → Right (itemAt m known text place)
+    -- where it is no opening
+    item-right : opensAt m known text place ≡ false → Came (withinOf single) → Right (itemAt m known text place)
     unfolding itemAt
-    item-right p = rw (lt-leb (length text) place inside) (by-single single p)
+    item-right other p = rw (lt-leb (length text) place inside, other) (by-single single p)
+
+-- no opening is read at a place: none stands there, or the reader is elsewhere than on the ground
+abbrev pub ReadsOn : Form → List ℕ → Reader → ℕ → Type 0
+ReadsOn m text r place = Elsewhere (r .standing) ⊎ (beginsWith (drop place text) (opening m) ≡ false)
+
+-- which of the two it is
+data Whether (m : Form) (text known : List ℕ) (r : Reader) (place : ℕ) : Type 0 where
+  opening-here : r .standing ≡ Standing.InStep Within.Ground → beginsWith (drop place text) (opening m) ≡ true →
+      opensAt m known text place ≡ true → Whether m text known r place
+  none-here : ReadsOn m text r place → opensAt m known text place ≡ false → Whether m text known r place
+
+whether : (m : Form) (text known : List ℕ) (r : Reader) (place : ℕ) → Stands known r → Whether m text known r place
+unfolding opensAt
+whether m text known r place s = by (s .single) (s .has) (s .stands)
+  where
+    by : (u : Single) → known ≡ cellsOf r u (s .left) → r .standing ≡ Standing.InStep (withinOf u) → Whether m text known r place
+    by none has stands = tell (beginsWith (drop place text) (opening m)) refl
+      where
+        single-is : singleIn known ≡ 0
+        single-is = ap singleIn has
+
+        tell : (t : Bool) → beginsWith (drop place text) (opening m) ≡ t → Whether m text known r place
+        tell true e = opening-here stands e (rw (single-is, e))
+        tell false e = none-here (inr e) (rw (single-is, e))
+    by (one e) has stands =
+        let single-is : singleIn known ≡ elementNumber e = ap singleIn has in
+        none-here (inl (subst Elsewhere (sym stands) tt)) (rw (single-is, taken-is-some e))
 
 pub items-go-on : (m : Form) (text : List ℕ) (P : Reader → ℕ → Type 0) → WaitsOn text P →
-    (r : Reader) (known : List ℕ) (place : ℕ) → P r place → Stands known r → r .form ≡ m → place < length text →
-    Good text P place (r .sets) known (itemAt m known text place)
-items-go-on m text P on r known place holds s form inside =
-    let came : P (here m text P on (r .sets) (r .gl) (r .gr) (s .single) (s .left) place (withinOf (s .single))) place =
-    subst (λ (x : Reader). P x place)
-    (λ i. record { form = form i; sets = r .sets; gl = r .gl; gr = r .gr; standing = s .stands i }) holds in
-    subst (λ (c : List ℕ). Good text P place (r .sets) c (itemAt m c text place)) (sym (s .has))
-    (item-right m text P on (r .sets) (r .gl) (r .gr) (s .single) (s .left) place inside
-    (record { holds = came; from = omega arith; within = omega arith }))
+    (r : Reader) (known : List ℕ) (place : ℕ) → (ReadsOn m text r place → P r place) → Stands known r → r .form ≡ m →
+    place < length text →
+    let i = itemAt m known text place in Opens m text r place i ⊎ Good text P place (r .sets) known i
+unfolding itemAt
+items-go-on m text P on r known place holds s form inside = by (whether m text known r place s)
+  where
+    right : ReadsOn m text r place → opensAt m known text place ≡ false → Good text P place (r .sets) known (itemAt m known text place)
+    right reads other =
+        let came : P (here m text P on (r .sets) (r .gl) (r .gr) (s .single) (s .left) place (withinOf (s .single))) place =
+        subst (λ (x : Reader). P x place)
+        (λ i. record { form = form i; sets = r .sets; gl = r .gl; gr = r .gr; gone = s .nothing-gone i; standing = s .stands i })
+        (holds reads) in
+        subst (λ (c : List ℕ). opensAt m c text place ≡ false → Good text P place (r .sets) c (itemAt m c text place)) (sym (s .has))
+        (λ none. item-right m text P on (r .sets) (r .gl) (r .gr) (s .single) (s .left) place inside none
+        (record { holds = came; from = omega arith; within = omega arith })) other
+
+    by : Whether m text known r place →
+        let i = itemAt m known text place in Opens m text r place i ⊎ Good text P place (r .sets) known i
+    by (opening-here ground begins opens) =
+        inl (record { ground = ground; begins = begins; is = rw (lt-leb (length text) place inside, opens) })
+    by (none-here reads other) = inr (right reads other)

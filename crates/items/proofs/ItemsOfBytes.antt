@@ -29,6 +29,7 @@ use Rattle.items.specs.States.{singleIn, leftIn, sizeIn, elementOf}
 use Rattle.items.specs.Items.{characterOf, shifts, controlAt, graphicArea, elementIn, byCount, bySetByte, notOfSetAt}
 use Rattle.items.specs.Items.{graphicAt, isControl, controlOrSequence, itemOfByte, itemAt}
 use Rattle.items.specs.Letters.{isLetter}
+use Rattle.items.proofs.FirstBytes.{opens-not}
 use Rattle.items.proofs.AreasOfBytes.{area-by, below-space, below-bit-8}
 
 -- ---- a byte on the ground, by its lower seven bits, whatever its area
@@ -91,10 +92,11 @@ module _ (m : Form) (cells text : List ℕ) (place : ℕ) (inside : place < leng
   abbrev size : ℕ
   size = sizeIn cells (elementOf cells b)
 
-  by-byte : formHas m b ≡ true → (t : Bool) → isControl (areaOf b) ≡ t →
+  by-byte : (b ≡ esc → ⊥) → formHas m b ≡ true → (t : Bool) → isControl (areaOf b) ≡ t →
       itemAt m cells text place ≡ (t gives controlOrSequence m b text place or graphicAt m cells 0 b text place)
   unfolding itemAt itemOfByte
-  by-byte has t is = rw (lt-leb (length text) place inside, ground, has, is)
+  by-byte other has t is =
+      rw (lt-leb (length text) place inside, opens-not m cells text place inside (λ x e. other e), ground, has, is)
 
   -- ---- a character
 
@@ -103,7 +105,7 @@ module _ (m : Form) (cells text : List ℕ) (place : ℕ) (inside : place < leng
   unfolding elementIn
   of-set-item has low of-set one =
       let a : GraphicArea = graphicArea 0 b in
-      by-byte has false (no-control b low) ∙
+      by-byte (λ e. omega (arith, e)) has false (no-control b low) ∙
       ap (λ (k : SetByte). bySetByte k m 0 a (elementOf cells b) size b text place) (low-byte-in (kindOf size) b ∙ of-set) ∙
       ap (λ (n : Count). byCount n m a (kindOf size) (elementOf cells b) (positionIn a b) text place) (one-count size one) ∙
       ap (λ (n : ℕ). characterOf (elementOf cells b) (n ∷ []) (place + 1)) (low-position b)
@@ -122,24 +124,24 @@ module _ (m : Form) (cells text : List ℕ) (place : ℕ) (inside : place < leng
 
   -- ---- a control
 
-  in-c0 : b < space → itemAt m cells text place ≡ controlOrSequence m b text place
-  in-c0 low =
+  in-c0 : b < space → (b ≡ esc → ⊥) → itemAt m cells text place ≡ controlOrSequence m b text place
+  in-c0 low other =
       let area : areaOf b ≡ Area.C0 = below-space b low in
-      by-byte (form-has-area m b Area.C0 area (both-have-c0 m)) true (ap isControl area)
+      by-byte other (form-has-area m b Area.C0 area (both-have-c0 m)) true (ap isControl area)
 
   pub control-item : b < space → (b ≡ so → ⊥) → (b ≡ si → ⊥) → (b ≡ esc → ⊥) →
       itemAt m cells text place ≡ record { effect = plain controlWord b; bytes = b ∷ []; place = place + 1 }
   unfolding controlOrSequence controlAt
   control-item low no-so no-si no-esc =
-      in-c0 low ∙ rw (ne-eqb b esc no-esc, lt-leb bit8 b (omega arith), ne-eqb b so no-so, ne-eqb b si no-si)
+      in-c0 low no-esc ∙ rw (ne-eqb b esc no-esc, lt-leb bit8 b (omega arith), ne-eqb b so no-so, ne-eqb b si no-si)
 
   pub shift-out-item : b ≡ so → itemAt m cells text place ≡ shifts (elementNumber Element.G1) (place + 1)
   unfolding controlOrSequence controlAt
-  shift-out-item e = in-c0 (omega arith) ∙ ap (λ (c : ℕ). controlOrSequence m c text place) e
+  shift-out-item e = in-c0 (omega arith) (λ f. omega (arith, e, f)) ∙ ap (λ (c : ℕ). controlOrSequence m c text place) e
 
   pub shift-in-item : b ≡ si → itemAt m cells text place ≡ shifts (elementNumber Element.G0) (place + 1)
   unfolding controlOrSequence controlAt
-  shift-in-item e = in-c0 (omega arith) ∙ ap (λ (c : ℕ). controlOrSequence m c text place) e
+  shift-in-item e = in-c0 (omega arith) (λ f. omega (arith, e, f)) ∙ ap (λ (c : ℕ). controlOrSequence m c text place) e
 
   -- ---- SPACE
 
@@ -148,7 +150,7 @@ module _ (m : Form) (cells text : List ℕ) (place : ℕ) (inside : place < leng
   unfolding graphicArea elementIn elementOf byteIn setByte between notOfSetAt
   space-item e of-94 =
       let area : areaOf b ≡ Area.GL = below-bit-8 b (omega arith) (omega arith) in
-      by-byte (gl-has m b (omega arith) (omega arith)) false (ap isControl area) ∙
+      by-byte (λ f. omega (arith, e, f)) (gl-has m b (omega arith) (omega arith)) false (ap isControl area) ∙
       ap (λ (c : ℕ). graphicAt m cells 0 c text place) e ∙
       ap (λ (k : Kind). bySetByte (byteIn GraphicArea.GL k space) m 0 GraphicArea.GL (leftIn cells) (sizeIn cells (leftIn cells)) space text place)
       of-94

@@ -3,6 +3,7 @@ pub mod BytesInANumber
 pub mod CharactersGoOn
 pub mod FirstBytes
 pub mod InsideSequences
+pub mod OpeningsAhead
 pub mod ItemsByBytes
 pub mod ItemsGoOn
 pub mod ItemsOfBytes

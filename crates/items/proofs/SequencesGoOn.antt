@@ -10,7 +10,7 @@ use Rattle.paper.specs.CodeTable.{formHas}
 use Rattle.paper.specs.Sequences.{sequenceByte, meaningOf}
 use Rattle.paper.specs.Sets.{designated, designatedControls}
 use Rattle.paper.specs.Characters.{shifts, shifted}
-use Rattle.paper.specs.Answering.{answerTo, sequenceAt, intermediate, means, withSets}
+use Rattle.paper.specs.Answering.{sequenceAt, intermediate, means, withSets}
 use Rattle.paper.specs.declared.Area.{Area}
 use Rattle.paper.specs.declared.Form.{Form}
 use Rattle.paper.specs.declared.ControlElement.{ControlElement}
@@ -25,6 +25,7 @@ use Rattle.paper.specs.declared.Within.{Within}
 use Rattle.paper.specs.declared.Reader.{Reader}
 use Rattle.paper.specs.declared.Refusal.{Refusal}
 use Rattle.paper.specs.declared.Answer.{Answer}
+use Rattle.paper.proofs.AnswersWithoutTheRecord.{answerOf}
 use Rattle.paper.proofs.Choices.{impossible, gives-by}
 use Rattle.paper.proofs.WrittenBytes.{form-has-area, both-have-gl, intermediate-area, final-area}
 use Rattle.escapes.specs.Effects.{shiftEffect, effectOf}
@@ -56,18 +57,18 @@ module _ (m : Form) (text : List ℕ) (P : Reader → ℕ → Type 0) (on : Wait
   -- ---- a byte inside a sequence
 
   reads-as : (i : Intermediates) (b : ℕ) (k : SequenceByte) → formHas m b ≡ true → sequenceByte b ≡ k →
-      answerTo (reader (inSequence i)) b ≡ sequenceAt k i b (reader (inSequence i))
+      answerOf (reader (inSequence i)) b ≡ sequenceAt k i b (reader (inSequence i))
   reads-as i b k has e =
       in-form-here m text P on t gl gr single left start (inSequence i) b has ∙
       ap (λ (k : SequenceByte). sequenceAt k i b (reader (inSequence i))) e
 
   reads-intermediate : (i : Intermediates) (b : ℕ) → sequenceByte b ≡ SequenceByte.Intermediate →
-      answerTo (reader (inSequence i)) b ≡ intermediate i b (reader (inSequence i))
+      answerOf (reader (inSequence i)) b ≡ intermediate i b (reader (inSequence i))
   reads-intermediate i b e =
       reads-as i b SequenceByte.Intermediate (form-has-area m b Area.GL (intermediate-area b e) (both-have-gl m)) e
 
   reads-final : (i : Intermediates) (f : ℕ) → sequenceByte f ≡ SequenceByte.Final →
-      answerTo (reader (inSequence i)) f ≡ means (meaningOf m i f) i f (reader (inSequence i))
+      answerOf (reader (inSequence i)) f ≡ means (meaningOf m i f) i f (reader (inSequence i))
   reads-final i f e = reads-as i f SequenceByte.Final (form-has-area m f Area.GL (final-area f e) (both-have-gl m)) e
 
   neither : (i : Intermediates) (place : ℕ) → Came (inSequence i) place → place < length text →
@@ -103,15 +104,15 @@ module _ (m : Form) (text : List ℕ) (P : Reader → ℕ → Type 0) (on : Wait
   -- ---- what it means
 
   shift-then : (w : Within) (h : Shift) → Then (shiftEffect h) (shifted h (reader w))
-  shift-then w Shift.LS0 = record { single = none; left = left; has = refl; stands = refl }
-  shift-then w Shift.LS1 = record { single = none; left = left; has = refl; stands = refl }
-  shift-then w Shift.LS2 = record { single = none; left = left; has = refl; stands = refl }
-  shift-then w Shift.LS3 = record { single = none; left = left; has = refl; stands = refl }
-  shift-then w Shift.LS1R = record { single = none; left = left; has = refl; stands = refl }
-  shift-then w Shift.LS2R = record { single = none; left = left; has = refl; stands = refl }
-  shift-then w Shift.LS3R = record { single = none; left = left; has = refl; stands = refl }
-  shift-then w Shift.SS2 = record { single = one Element.G2; left = left; has = refl; stands = refl }
-  shift-then w Shift.SS3 = record { single = one Element.G3; left = left; has = refl; stands = refl }
+  shift-then w Shift.LS0 = record { single = none; left = left; has = refl; stands = refl; nothing-gone = refl }
+  shift-then w Shift.LS1 = record { single = none; left = left; has = refl; stands = refl; nothing-gone = refl }
+  shift-then w Shift.LS2 = record { single = none; left = left; has = refl; stands = refl; nothing-gone = refl }
+  shift-then w Shift.LS3 = record { single = none; left = left; has = refl; stands = refl; nothing-gone = refl }
+  shift-then w Shift.LS1R = record { single = none; left = left; has = refl; stands = refl; nothing-gone = refl }
+  shift-then w Shift.LS2R = record { single = none; left = left; has = refl; stands = refl; nothing-gone = refl }
+  shift-then w Shift.LS3R = record { single = none; left = left; has = refl; stands = refl; nothing-gone = refl }
+  shift-then w Shift.SS2 = record { single = one Element.G2; left = left; has = refl; stands = refl; nothing-gone = refl }
+  shift-then w Shift.SS3 = record { single = one Element.G3; left = left; has = refl; stands = refl; nothing-gone = refl }
 
   shift-word : (h : Shift) → shiftEffect h .word .0 ≡ 6
   shift-word Shift.LS0 = refl
@@ -126,7 +127,7 @@ module _ (m : Form) (text : List ℕ) (P : Reader → ℕ → Type 0) (on : Wait
 
   -- a shift answers itself, and nothing is written for it
   pub shift-right : (w : Within) (place : ℕ) → Came w place → place < length text → (h : Shift) →
-      answerTo (reader w) (getD text place 0) ≡ shifts h (reader w) →
+      answerOf (reader w) (getD text place 0) ≡ shifts h (reader w) →
       Right (record { effect = shiftEffect h; bytes = []; place = place + 1 })
   shift-right w place p inside h is =
       ends-well m text P on t gl gr single left start p inside refl (Answer.Shift h) (shifted h (reader w)) is (λ n e. impossible (cc))
@@ -134,29 +135,29 @@ module _ (m : Form) (text : List ℕ) (P : Reader → ℕ → Type 0) (on : Wait
 
   designated-then : (w : Within) (e : Element) (x : Set) (f : ℕ) →
       Then (effectOf (Meaning.Designate e (x .kind) (x .count))) (withSets (designated t e x) (reader w))
-  designated-then w Element.G0 x f = record { single = none; left = left; has = refl; stands = refl }
-  designated-then w Element.G1 x f = record { single = none; left = left; has = refl; stands = refl }
-  designated-then w Element.G2 x f = record { single = none; left = left; has = refl; stands = refl }
-  designated-then w Element.G3 x f = record { single = none; left = left; has = refl; stands = refl }
+  designated-then w Element.G0 x f = record { single = none; left = left; has = refl; stands = refl; nothing-gone = refl }
+  designated-then w Element.G1 x f = record { single = none; left = left; has = refl; stands = refl; nothing-gone = refl }
+  designated-then w Element.G2 x f = record { single = none; left = left; has = refl; stands = refl; nothing-gone = refl }
+  designated-then w Element.G3 x f = record { single = none; left = left; has = refl; stands = refl; nothing-gone = refl }
 
   controls-then : (w : Within) (v : ControlElement) (f : ℕ) →
       Then (effectOf (Meaning.DesignateControls v)) (withSets (designatedControls t v f) (reader w))
-  controls-then w ControlElement.C0 f = record { single = none; left = left; has = refl; stands = refl }
-  controls-then w ControlElement.C1 f = record { single = none; left = left; has = refl; stands = refl }
+  controls-then w ControlElement.C0 f = record { single = none; left = left; has = refl; stands = refl; nothing-gone = refl }
+  controls-then w ControlElement.C1 f = record { single = none; left = left; has = refl; stands = refl; nothing-gone = refl }
 
   -- a byte that is answered with this meaning, and has bytes of this meaning
   pub means-right : (w : Within) (place : ℕ) → Came w place → place < length text → (k : Meaning) (i : Intermediates) (bytes : List ℕ) →
-      Bytes k i (getD text place 0) bytes → answerTo (reader w) (getD text place 0) ≡ means k i (getD text place 0) (reader w) →
+      Bytes k i (getD text place 0) bytes → answerOf (reader w) (getD text place 0) ≡ means k i (getD text place 0) (reader w) →
       Right (meantAt (effectOf k) bytes place (place + 1))
   unfolding means meantAt bytesMeant
   means-right w place p inside Meaning.NoMeaning i bytes right is =
       stops-at m text P on t gl gr single left start Refusal.WithoutMeaning p inside is
   means-right w place p inside Meaning.Other i bytes right is =
       ends-well m text P on t gl gr single left start p inside refl (Answer.Other i (getD text place 0)) _ is (λ n e. impossible (cc))
-      refl right tt (record { single = none; left = 0; has = refl; stands = refl })
+      refl right tt (record { single = none; left = 0; has = refl; stands = refl; nothing-gone = refl })
   means-right w place p inside (Meaning.Function n) i bytes right is =
       ends-well m text P on t gl gr single left start p inside refl (Answer.Control ControlElement.C1 (t .c1) n) _ is
-      (λ n e. impossible (cc)) refl refl refl (record { single = none; left = n; has = refl; stands = refl })
+      (λ n e. impossible (cc)) refl refl refl (record { single = none; left = n; has = refl; stands = refl; nothing-gone = refl })
   means-right w place p inside (Meaning.Shifts h) i bytes right is =
       rw (shift-word h) (shift-right w place p inside h is)
   means-right w place p inside (Meaning.DesignateControls v) i bytes right is =
@@ -190,7 +191,7 @@ module _ (m : Form) (text : List ℕ) (P : Reader → ℕ → Type 0) (on : Wait
       let b : ℕ = getD text place 0 in
       inside-right s place _ _ p
       (λ inside e. after-two i b (place + 1)
-      (waits-on m text P on t gl gr single left start p inside (inSequence (Intermediates.Two i b)) (reads-intermediate s b e)))
+      (waits-on m text P on t gl gr single left start p inside (inSequence (Intermediates.Two i b)) (reads-intermediate s b e) tt))
       (final-right s place p)
 
   pub after-escape : (place : ℕ) → Came (inSequence Intermediates.None) place → Right (afterEscape m text place)
@@ -199,5 +200,5 @@ module _ (m : Form) (text : List ℕ) (P : Reader → ℕ → Type 0) (on : Wait
       let b : ℕ = getD text place 0 in
       inside-right s place _ _ p
       (λ inside e. after-one b (place + 1)
-      (waits-on m text P on t gl gr single left start p inside (inSequence (Intermediates.One b)) (reads-intermediate s b e)))
+      (waits-on m text P on t gl gr single left start p inside (inSequence (Intermediates.One b)) (reads-intermediate s b e) tt))
       (final-right s place p)

@@ -27,6 +27,7 @@ same-stands {c} {d} {r} same s = record {
       sym (set-back d nowhere 0) ∙
       ap (λ (l : List ℕ). set l nowhere (getD d nowhere 0)) (sym same ∙ ap (λ (l : List ℕ). set l nowhere 0) (s .has));
   stands = s .stands;
+  nothing-gone = s .nothing-gone;
 }
 
 -- on the ground no single shift takes a character

@@ -4,17 +4,20 @@ use Prim.Native.Nat.{ℕ, _+_, _-_, _%_}
 use mathlib.Core.Bool.{Bool, true, false}
 use mathlib.Core.List.{List, [], _∷_}
 use lib.Dec.{ltb, leb, eqb}
-use lib.ListN.{length, getD}
+use lib.ListN.{length, getD, drop}
 use Rattle.paper.specs.Choice.{_gives_or_}
 use Rattle.paper.specs.CodeTable.{areaOf, formHas, bit8, so, si, esc}
+use Rattle.paper.specs.Starting.{opening}
+use Rattle.paper.specs.Searching.{beginsWith}
 use Rattle.paper.specs.Results.{elementNumber, controlSize, charWord, spaceWord, deleteWord, controlWord, shiftWord, refusedWord}
 use Rattle.paper.specs.Results.{instepWord}
-use Rattle.paper.specs.Sequences.{sequenceByte, meaningOf, c1Function, intermediateOf, several, isShort}
+use Rattle.paper.specs.Sequences.{sequenceByte, meaningOf, c1Function, intermediateOf, several, isShort, intermediateOfControls}
 use Rattle.paper.specs.Characters.{positionIn, byteIn}
 use Rattle.paper.specs.WrittenForms.{sequenceBytes}
 use Rattle.paper.specs.Refusals.{numberOf}
 use Rattle.paper.specs.declared.Area.{Area}
 use Rattle.paper.specs.declared.Form.{Form}
+use Rattle.paper.specs.declared.ControlElement.{ControlElement}
 use Rattle.paper.specs.declared.Kind.{Kind}
 use Rattle.paper.specs.declared.Count.{Count}
 use Rattle.paper.specs.declared.Element.{Element}
@@ -50,9 +53,16 @@ stopped number place = record { effect = plain refusedWord number; bytes = []; p
 abbrev pub refused : Refusal → ℕ → Item
 refused n place = stopped (numberOf n) place
 
--- past the end of a text there is no item: a word after the paper's
+-- an opening is an item of its own, and past the end of a text there is none: words after the paper's
+abbrev pub openingWord : ℕ
+openingWord = instepWord + 1
+
 abbrev pub pastWord : ℕ
-pastWord = instepWord + 1
+pastWord = openingWord + 1
+
+-- taken whole: the place after it
+abbrev pub openingItem : ℕ → Item
+openingItem place = record { effect = plain openingWord 0; bytes = []; place = place }
 
 abbrev pub pastTheEnd : ℕ → Item
 pastTheEnd place = record { effect = plain pastWord 0; bytes = []; place = place }
@@ -221,7 +231,28 @@ itemOfByte m cells t b text place =
     graphicAt m cells t b text place) or
     refused Refusal.ByteOfEightBits place
 
+-- the opening of the form stands at a place, and no single shift before it
+unfoldable pub opensAt : Form → List ℕ → List ℕ → ℕ → Bool
+opensAt m cells text place = eqb (singleIn cells) 0 gives beginsWith (drop place text) (opening m) or false
+
 unfoldable pub itemAt : Form → List ℕ → List ℕ → ℕ → Item
 itemAt m cells text place =
     leb (length text) place gives pastTheEnd place or
+    opensAt m cells text place gives openingItem (place + length (opening m)) or
     itemOfByte m cells (singleIn cells) (getD text place 0) text place
+
+-- ---- an opening, met inside its first sequence
+
+-- the rest of an opening stands at a place after ESC, or else there is another item
+abbrev pub openedOr : Form → List ℕ → ℕ → Item → Item
+openedOr m text place else =
+    beginsWith (drop place text) (drop 1 (opening m)) gives openingItem (place - 1 + length (opening m)) or else
+
+-- the same after ESC and an intermediate
+unfoldable pub isOpening : Form → ℕ → List ℕ → ℕ → Bool
+isOpening m i text place =
+    eqb i (intermediateOfControls ControlElement.C0) gives beginsWith (drop place text) (drop 2 (opening m)) or false
+
+abbrev pub afterOneOr : Form → ℕ → List ℕ → ℕ → Item
+afterOneOr m i text place =
+    isOpening m i text place gives openingItem (place - 2 + length (opening m)) or afterOne m i text place

@@ -64,11 +64,13 @@ cellsOf r t left =
     0 ∷ 0 ∷ sizeOfSet (r .sets .g0) ∷ sizeOfSet (r .sets .g1) ∷ sizeOfSet (r .sets .g2) ∷ sizeOfSet (r .sets .g3) ∷
     elementNumber (r .gl) ∷ elementNumber (r .gr) ∷ singleNumber t ∷ left ∷ 0 ∷ 0 ∷ 0 ∷ 0 ∷ 0 ∷ 0 ∷ []
 
+-- the reader beside them has recorded nothing of an opening: openings are taken whole
 pub record Stands (cells : List ℕ) (r : Reader) : Type 0 where
   pub single : Single
   pub left : ℕ
   pub has : cells ≡ cellsOf r single left
   pub stands : r .standing ≡ Standing.InStep (withinOf single)
+  pub nothing-gone : r .gone ≡ 0
 
 -- both forms start alike
 abbrev pub startingCells : List ℕ

@@ -25,7 +25,7 @@ use refusals::BYTE_OF_EIGHT_BITS;
 ghost use mathlib.Core.Path.{_≡_};
 ghost use Rattle.paper.specs.CodeTable.{areaOf};
 ghost use Rattle.items.specs.Pieces.{bytesIn, Small};
-ghost use Rattle.items.specs.Items.{itemOf, characterOf, stopped, isControl, itemAt};
+ghost use Rattle.items.specs.Items.{itemOf, characterOf, stopped, openingItem, isControl, itemAt};
 
 // What it does, its bytes, and the place after it. Of a character the value is its element, and the bytes are its position bytes; the
 // bytes of all else are what it is written as in 8-bit form. Of a refusal the value is its number, and the place its place.
@@ -35,8 +35,10 @@ pub struct Item {
     pub place: usize,
 }
 
-// Past the end of a text there is no item: a word after the paper's.
-pub const PAST_WORD: u8 = INSTEP_WORD + 1;
+// An opening is an item of its own, and past the end of a text there is none: words after the paper's.
+pub const OPENING_WORD: u8 = INSTEP_WORD + 1;
+
+pub const PAST_WORD: u8 = OPENING_WORD + 1;
 
 pub(crate) fn character_of(element: ElementNumber, piece: Piece, place: usize) -> Item
     ensures { λ r. ⌜ (itemOf r ≡ characterOf (element .0) (bytesIn piece) place) × (r .piece ≡ piece) ⌝ }
@@ -67,6 +69,19 @@ fn is_control(byte: u8) -> bool
     ensures { λ r. ⌜ r ≡ isControl (areaOf byte) ⌝ }
 {
     byte % BIT_8 < SPACE
+}
+
+// An opening, taken whole: the place after it.
+pub(crate) fn opening(place: usize) -> Item
+    ensures { λ r. ⌜ (itemOf r ≡ openingItem place) × Small (r .piece) ⌝ }
+{
+    let effect = plain(OPENING_WORD, 0);
+    let piece = nothing();
+    Item {
+        effect: effect,
+        piece: piece,
+        place: place,
+    }
 }
 
 // The item at a place of a text in a form, for what is known there. Letters are most of a text, so they are tried first.

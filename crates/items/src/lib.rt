@@ -1,4 +1,5 @@
-// The items of a text, each read whole: a control, a shift, a sequence or a character; only a single shift and its character are two.
+// The items of a text, each read whole: an opening, a control, a shift, a sequence or a character; only a single shift and its character
+// are two.
 // Who has the whole text need not stop at every byte, and keeps what an item can change and no more. The bytes of an item
 // are those of 8-bit form; `converter` writes them in the form that is asked for.
 mod character;

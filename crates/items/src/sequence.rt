@@ -1,5 +1,6 @@
 // Controls and sequences, read whole. What they do is asked of `escapes`.
 use crate::item::Item;
+use crate::item::opening;
 use crate::item::refused;
 use crate::piece::Piece;
 use crate::piece::four;
@@ -20,6 +21,7 @@ use escapes::LAST_FUNCTION;
 use escapes::LAST_INTERMEDIATE;
 use escapes::LAST_SHORT;
 use escapes::OF_94_INTO_G0;
+use escapes::OF_C0;
 use escapes::SEVERAL;
 use escapes::effect::CONTROL_WORD;
 use escapes::effect::Effect;
@@ -34,6 +36,8 @@ use escapes::effect_of_function;
 use escapes::effect_of_none;
 use escapes::effect_of_one;
 use escapes::effect_of_two;
+use openings::opening_length;
+use openings::rest_ahead;
 use paper::Form;
 use refusals::BYTE_OF_EIGHT_BITS;
 use refusals::ENDS_INSIDE;
@@ -45,7 +49,10 @@ ghost use mathlib.Core.Path.{_≡_};
 ghost use lib.ListN.{length};
 ghost use Rattle.items.specs.Pieces.{bytesIn, Small};
 ghost use Rattle.items.specs.Items.{itemOf, notOfSequence, bytesMeant, meantAt, severalBytesOf, afterTwo, afterOne, afterEscape};
-ghost use Rattle.items.specs.Items.{shifts, controlAt};
+ghost use Rattle.items.specs.Items.{shifts, controlAt, openedOr, isOpening, afterOneOr};
+
+// How many bytes of an opening stand before the final of its first sequence.
+const BEFORE: usize = 2;
 
 // How many C1 functions there are.
 const FUNCTIONS: u8 = LAST_FUNCTION + 1;
@@ -127,9 +134,20 @@ fn after_two(form: Form, first: u8, second: u8, text: &[u8], place: usize) -> It
     not_of_sequence(form, byte, place)
 }
 
+// After ESC and an intermediate: the rest of an opening stands at a place.
+fn is_opening(form: Form, first: u8, text: &[u8], place: usize) -> bool
+    ensures { λ r. ⌜ r ≡ isOpening form first (now (text .entry)) place ⌝ }
+{
+    if first == OF_C0 {
+        rest_ahead(form, text, place)
+    } else {
+        false
+    }
+}
+
 fn after_one(form: Form, first: u8, text: &[u8], place: usize) -> Item
-    requires { ⌜ place ≤ length (now text) ⌝ }
-    ensures { λ r. ⌜ (itemOf r ≡ afterOne form first (now (text .entry)) place) × Small (r .piece) ⌝ }
+    requires { ⌜ (2 ≤ place) × (place ≤ length (now text)) ⌝ }
+    ensures { λ r. ⌜ (itemOf r ≡ afterOneOr form first (now (text .entry)) place) × Small (r .piece) ⌝ }
 {
     if place >= text.len() {
         return refused(ENDS_INSIDE, place);
@@ -142,6 +160,9 @@ fn after_one(form: Form, first: u8, text: &[u8], place: usize) -> Item
         return after_two(form, first, byte, text, place + 1);
     }
     if byte <= LAST_FINAL {
+        if is_opening(form, first, text, place) {
+            return opening(place - BEFORE + opening_length(form) as usize);
+        }
         let effect = effect_of_one(first, byte);
         return meant(effect, three(ESC, first, byte), place, place + 1);
     }
@@ -149,8 +170,8 @@ fn after_one(form: Form, first: u8, text: &[u8], place: usize) -> Item
 }
 
 pub(crate) fn after_escape(form: Form, text: &[u8], place: usize) -> Item
-    requires { ⌜ place ≤ length (now text) ⌝ }
-    ensures { λ r. ⌜ (itemOf r ≡ afterEscape form (now (text .entry)) place) × Small (r .piece) ⌝ }
+    requires { ⌜ (1 ≤ place) × (place ≤ length (now text)) ⌝ }
+    ensures { λ r. ⌜ (itemOf r ≡ openedOr form (now (text .entry)) place (afterEscape form (now (text .entry)) place)) × Small (r .piece) ⌝ }
 {
     if place >= text.len() {
         return refused(ENDS_INSIDE, place);

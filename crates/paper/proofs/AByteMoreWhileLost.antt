@@ -1,7 +1,6 @@
 -- What one byte more does to a lost reader. How much of the opening it has matched is the longest beginning of it with which the
--- bytes since the refused one end: a beginning with which they end now was, less its last byte, such an end before, and so lies
--- within what was matched. That is the whole opening exactly when they end with it. With that byte the reader answers instep and is the
--- starting reader; with any other it answers skipped, and has kept the byte.
+-- bytes since the refused one end, and that is the whole opening exactly when they end with it. With that byte the reader answers
+-- instep and is the starting reader; with any other it answers skipped, and has kept the byte.
 use Prim.Native.Nat.{ℕ, zero, suc, _+_, _<_, _≤_}
 use mathlib.Core.Path.{_≡_, refl, sym, ap, _∙_}
 use mathlib.Core.Logic.{⊎-elim}
@@ -17,57 +16,11 @@ use Rattle.paper.specs.Choice.{_gives_or_}
 use Rattle.paper.specs.Words.{Form, Standing, Reader, Answer, Answered}
 use Rattle.paper.specs.Starting.{started, opening}
 use Rattle.paper.specs.Searching.{endsWith, longest, matchedWith, mostSkipped, skippedBytes, oneMore}
+use Rattle.paper.specs.Marks.{recording, recordAfter}
 use Rattle.paper.specs.Characters.{standingAt}
 use Rattle.paper.specs.Answering.{answerLost, answerTo}
-use Rattle.paper.proofs.Choices.{impossible}
-use Rattle.paper.proofs.ListsThatEnd.{Tail, ends-tail, tail-ends, last-byte, shorter, tail-with, tail-of, Longest}
-use Rattle.paper.proofs.ListsThatEnd.{longest-is}
-
--- ---- the longest beginning, one byte on
-
-module _ (o seen : List ℕ) (k b : ℕ) (now : Longest o seen (length o) k) where
-  -- what was matched, and the byte
-  abbrev came : List ℕ
-  came = take k o ++ (b ∷ [])
-
-  abbrev next : ℕ
-  next = longest o came (length o)
-
-  next-here : Tail (seen ++ (b ∷ [])) (take next o)
-  next-here = tail-of (seen ++ (b ∷ [])) came (take next o) (tail-with seen (take k o) b (now .here)) (longest-is o came (length o) .here)
-
-  next-most : (j : ℕ) → j ≤ length o → Tail (seen ++ (b ∷ [])) (take j o) → j ≤ next
-  next-most zero h t = omega arith
-  next-most (suc j) h t =
-      let d : ℕ = getD o j 0 in
-      let begins : take (suc j) o ≡ take j o ++ (d ∷ []) = take-suc o j 0 (omega arith) in
-      let parts = last-byte seen (t .front ++ take j o) b d
-      (t .is ∙ (ap (λ (x : List ℕ). t .front ++ x) begins ∙ sym (append-assoc (t .front) (take j o) (d ∷ [])))) in
-      let less : j ≤ k = now .most j (omega arith) (record { front = t .front; is = parts .0 }) in
-      let all : k ≤ length o = now .within in
-      let long : length (take j o) ≡ j = length-take-le j o (omega arith) in
-      let longer : length (take k o) ≡ k = length-take-le k o (omega arith) in
-      let inside : Tail (take k o) (take j o) =
-      shorter (now .here .front) (t .front) (take k o) (take j o) (sym (now .here .is) ∙ parts .0) (omega arith) in
-      let both : Tail came (take (suc j) o) = rw (begins, ← (parts .1)) (tail-with (take k o) (take j o) b inside) in
-      longest-is o came (length o) .most (suc j) h both
-
-  next-longest : Longest o (seen ++ (b ∷ [])) (length o) next
-  next-longest = record { here = next-here; within = longest-is o came (length o) .within; most = next-most }
-
--- ---- the whole opening
-
-module _ (o seen : List ℕ) (k : ℕ) (now : Longest o seen (length o) k) where
-  complete : endsWith seen o ≡ true → k ≡ length o
-  complete e =
-      let most : length o ≤ k = now .most (length o) (omega arith) (rw (take-all (length o) o (omega arith)) (ends-tail seen o e)) in
-      omega (arith, now .within)
-
-  not-yet : endsWith seen o ≡ false → k < length o
-  not-yet e = ⊎-elim
-      (λ all. let there : endsWith seen o ≡ true = tail-ends seen o (rw (take-all k o (omega arith)) at (now .here)) in impossible (cc))
-      (λ less. less)
-      (eq-or-lt-of-le (now .within))
+use Rattle.paper.proofs.ListsThatEnd.{Longest}
+use Rattle.paper.proofs.BeginningsByteByByte.{next-longest, complete, not-yet, none-seen}
 
 -- ---- the count
 
@@ -88,13 +41,13 @@ count-on n = by (leb n mostSkipped) refl (leb (n + 1) mostSkipped) refl
 
 -- ---- a lost reader
 
--- what a lost reader keeps of the bytes since the refused one
+-- what a lost reader keeps of the bytes since the refused one; it has recorded nothing
 pub record Kept (m : Form) (seen : List ℕ) (k n : ℕ) : Type 0 where
   pub matched : Longest (opening m) seen (length (opening m)) k
   pub counted : n ≡ skippedBytes (length seen)
 
 abbrev pub lost : Reader → ℕ → ℕ → Reader
-lost r k n = standingAt (Standing.Lost k n) r
+lost r k n = standingAt (Standing.Lost k n) (recording 0 r)
 
 -- one byte more: the opening is complete with it, or the search goes on
 module _ (r : Reader) (seen : List ℕ) (k n b : ℕ) (kept : Kept (r .form) seen k n) where
@@ -116,9 +69,16 @@ module _ (r : Reader) (seen : List ℕ) (k n b : ℕ) (kept : Kept (r .form) see
       complete gives record { answer = Answer.InStep (oneMore n); reader = started (r .form) } or
       record { answer = Answer.Skipped; reader = lost r now (oneMore n) }
 
+  abbrev recordedAfter : Answered → Answered
+  recordedAfter a = record { answer = a .answer; reader = recording (recordAfter (lost r k n) b (a .reader .standing)) (a .reader) }
+
+  nothing-recorded : (complete : Bool) → recordedAfter (whether complete) ≡ whether complete
+  nothing-recorded true = refl
+  nothing-recorded false = refl
+
   by-the-match : answerTo (lost r k n) b ≡ whether (eqb now (length (opening (r .form))))
   unfolding answerTo answerLost
-  by-the-match = refl
+  by-the-match = nothing-recorded (eqb now (length (opening (r .form))))
 
   pub found : endsWith all (opening (r .form)) ≡ true →
       answerTo (lost r k n) b ≡ record { answer = Answer.InStep (skippedBytes (length all)); reader = started (r .form) }
@@ -137,15 +97,6 @@ module _ (r : Reader) (seen : List ℕ) (k n b : ℕ) (kept : Kept (r .form) see
   still-kept = record { matched = now-longest; counted = now-counted }
 
 -- ---- it begins with nothing, and then the refused byte
-
-none-seen : (o : List ℕ) → Longest o [] (length o) 0
-none-seen o = record {
-  here = record { front = []; is = refl };
-  within = omega arith;
-  most = λ j h t.
-      let n : length (take j o) ≡ j = length-take-le j o h in
-      omega (arith, length-append (t .front) (take j o), ap length (t .is));
-}
 
 kept-none : (m : Form) → Kept m [] 0 0
 unfolding skippedBytes

@@ -1,9 +1,9 @@
--- What some conversions answer, computed: the paper's examples beside P12, the short sequence where it is due, and the order of the
--- refusals; each with the lent buffer afterwards.
+-- What some conversions answer, computed: the paper's examples beside P12, the short sequence where it is due, openings (request #104),
+-- and the order of the refusals; each with the lent buffer afterwards.
 use Prim.Native.Nat.{ℕ}
 use mathlib.Core.Path.{_≡_, refl}
-use mathlib.Core.List.{List, [], _∷_, map}
-use lib.ListN.{length}
+use mathlib.Core.List.{List, [], _∷_, _++_, map}
+use lib.ListN.{drop, length}
 use Rattle.paper.specs.Choice.{between}
 use Rattle.paper.specs.Words.{Form, Seven, Eight}
 use Rattle.paper.specs.CodeTable.{columnArea, formHasColumn, positionOf}
@@ -26,6 +26,17 @@ pub record Example : Type 0 where
   -- refusal, place and length, and the buffer afterwards
   pub returned : List ℕ
   pub buffer : List ℕ
+
+-- the opening in hex, as the paper has it
+abbrev commonBytes : List ℕ
+commonBytes =
+    0x1B ∷ 0x21 ∷ 0x40 ∷ 0x1B ∷ 0x22 ∷ 0x43 ∷ 0x1B ∷ 0x28 ∷ 0x42 ∷ 0x1B ∷ 0x2D ∷ 0x46 ∷ 0x1B ∷ 0x2E ∷ 0x41 ∷ 0x1B ∷ 0x2F ∷ 0x4C ∷ []
+
+abbrev inEight : List ℕ
+inEight = commonBytes ++ (0x0F ∷ 0x1B ∷ 0x7E ∷ [])
+
+abbrev inSeven : List ℕ
+inSeven = commonBytes ++ (0x0E ∷ 0x0F ∷ [])
 
 abbrev pub conversionExamples : List Example
 conversionExamples =
@@ -95,6 +106,91 @@ conversionExamples =
       room = 4;
       returned = 0 ∷ 0 ∷ 4 ∷ [];
       buffer = 0x1B ∷ 0x24 ∷ 0x28 ∷ 0x43 ∷ [];
+    } ∷
+    -- an opening is written as one: opening, C1 to 7-bit, and back
+    record {
+      from = Eight;
+      to = Seven;
+      bytes = inEight ++ (0xC1 ∷ []);
+      room = 22;
+      returned = 0 ∷ 0 ∷ 22 ∷ [];
+      buffer = inSeven ++ (0x0E ∷ 0x41 ∷ []);
+    } ∷
+    record {
+      from = Seven;
+      to = Eight;
+      bytes = inSeven ++ (0x0E ∷ 0x41 ∷ []);
+      room = 22;
+      returned = 0 ∷ 0 ∷ 22 ∷ [];
+      buffer = inEight ++ (0xC1 ∷ []);
+    } ∷
+    -- no mark: the common bytes, 1B 7E 0F C1; the opening of the other form; an opening with a shift between its sequences
+    record {
+      from = Eight;
+      to = Seven;
+      bytes = commonBytes ++ (0x1B ∷ 0x7E ∷ 0x0F ∷ 0xC1 ∷ []);
+      room = 20;
+      returned = 0 ∷ 0 ∷ 20 ∷ [];
+      buffer = commonBytes ++ (0x0E ∷ 0x41 ∷ []);
+    } ∷
+    record {
+      from = Eight;
+      to = Seven;
+      bytes = inSeven ++ (0xC1 ∷ []);
+      room = 20;
+      returned = 0 ∷ 0 ∷ 20 ∷ [];
+      buffer = commonBytes ++ (0x0E ∷ 0x41 ∷ []);
+    } ∷
+    record {
+      from = Seven;
+      to = Eight;
+      bytes = 0x1B ∷ 0x21 ∷ 0x40 ∷ 0x0F ∷ drop 3 inSeven;
+      room = 18;
+      returned = 0 ∷ 0 ∷ 18 ∷ [];
+      buffer = commonBytes;
+    } ∷
+    -- an opening twice, and after part of one
+    record {
+      from = Eight;
+      to = Seven;
+      bytes = inEight ++ inEight;
+      room = 40;
+      returned = 0 ∷ 0 ∷ 40 ∷ [];
+      buffer = inSeven ++ inSeven;
+    } ∷
+    record {
+      from = Seven;
+      to = Eight;
+      bytes = 0x1B ∷ 0x21 ∷ 0x40 ∷ inSeven;
+      room = 24;
+      returned = 0 ∷ 0 ∷ 24 ∷ [];
+      buffer = 0x1B ∷ 0x21 ∷ 0x40 ∷ inEight;
+    } ∷
+    -- SO before an opening, which then shows G0
+    record {
+      from = Seven;
+      to = Eight;
+      bytes = 0x0E ∷ (inSeven ++ (0x41 ∷ []));
+      room = 22;
+      returned = 0 ∷ 0 ∷ 22 ∷ [];
+      buffer = inEight ++ (0x41 ∷ []);
+    } ∷
+    -- after a text that showed G1 in GL, in both directions
+    record {
+      from = Eight;
+      to = Seven;
+      bytes = 0xC1 ∷ (inEight ++ (0xC1 ∷ 0x41 ∷ []));
+      room = 26;
+      returned = 0 ∷ 0 ∷ 26 ∷ [];
+      buffer = 0x0E ∷ 0x41 ∷ (inSeven ++ (0x0E ∷ 0x41 ∷ 0x0F ∷ 0x41 ∷ []));
+    } ∷
+    record {
+      from = Seven;
+      to = Eight;
+      bytes = 0x0E ∷ 0x41 ∷ (inSeven ++ (0x41 ∷ []));
+      room = 23;
+      returned = 0 ∷ 0 ∷ 23 ∷ [];
+      buffer = 0xC1 ∷ (inEight ++ (0x41 ∷ []));
     } ∷
     -- 5 at 3 and 7 at 4 come before 9
     record {

@@ -123,7 +123,7 @@ unfolding between columnArea formHasColumn positionOf setByte sequenceByte c1Fun
 example-listed = refl
 
 abbrev exampleEnd : Reader
-exampleEnd = record { form = Eight; sets = startingSets; gl = G1; gr = G1; standing = Standing.Lost 0 2 }
+exampleEnd = record { form = Eight; sets = startingSets; gl = G1; gr = G1; gone = 0; standing = Standing.Lost 0 2 }
 
 example-ends : readerAfter (started Eight) example ≡ exampleEnd
 unfolding between columnArea formHasColumn positionOf setByte sequenceByte c1Function shiftOrOther meaningOfNone designation

@@ -2,12 +2,12 @@
 -- refuses by 1 to 6 alone and is then lost with the refused byte; after any other answer it is in step. The form stays, and in
 -- 7-bit form GR shows what it showed.
 use Prim.Native.Nat.{ℕ, _-_, _≤_}
-use mathlib.Core.Path.{_≡_, refl, _∙_, subst}
+use mathlib.Core.Path.{_≡_, refl, sym, ap, _∙_, subst}
 use mathlib.Core.List.{List, [], _∷_}
 use native.Mathlib.Omega.{arith}
 use lib.Dec.{ltb, eqb}
 use lib.ListN.{length}
-use Rattle.paper.specs.Words.{Seven, Area, Element, Set, SetByte, OfSpace, OfDelete, OfSet, Outside}
+use Rattle.paper.specs.Words.{Seven, Area, G1, Element, Set, SetByte, OfSpace, OfDelete, OfSet, Outside}
 use Rattle.paper.specs.Words.{SequenceByte, Intermediate, Final, Neither, Intermediates, Meaning}
 use Rattle.paper.specs.Words.{NoMeaning, Function, Shifts, GraphicArea, PositionBytes, Within, Standing, Reader}
 use Rattle.paper.specs.Words.{Refusal, Answer, Answered}
@@ -17,6 +17,7 @@ use Rattle.paper.specs.Starting.{opening}
 use Rattle.paper.specs.Sequences.{sequenceByte, c1Function, meaningOf}
 use Rattle.paper.specs.Refusals.{numberOf}
 use Rattle.paper.specs.Searching.{matchedWith, oneMore}
+use Rattle.paper.specs.Marks.{recording, recordAfter}
 use Rattle.paper.specs.Characters.{lostWith, refuses, c0Byte, positionIn, byteIn}
 use Rattle.paper.specs.Characters.{bytesSoFar, withByte, character, ofCharacter, firstInGL}
 use Rattle.paper.specs.Answering.{means, intermediate, sequenceAt, groundAt, answerWithin, answerInStep}
@@ -133,14 +134,32 @@ module _ (r : Reader) (b : ℕ) where
       subst (λ (a : Answer). Leaves a (answerInStep w b r .reader)) e (in-step-lawful w .2)
   refused-standing (Standing.Lost k c) n e = absurd (lost-lawful (matchedWith (r .form) k b) (oneMore c) .1 n e)
 
-  -- any reader refuses by 1 to 6 alone, and is then lost
-  pub refused-lost : (n : Refusal) → answerTo r b .answer ≡ Answer.Refused n → (numberOf n ≤ 6) × (answerTo r b .reader ≡ lostWith b r)
+-- ---- any reader, in step or lost
+
+module _ (r : Reader) (b : ℕ) where
+  -- it refuses by 1 to 6 alone, and is then lost, with nothing recorded
+  pub refused-lost : (n : Refusal) → answerTo r b .answer ≡ Answer.Refused n →
+      (numberOf n ≤ 6) × (answerTo r b .reader ≡ lostWith b (recording 0 r))
   unfolding answerTo
-  refused-lost n e = refused-standing (r .standing) n e
+  refused-lost n e =
+      let h = refused-standing (recording 0 r) b (r .standing) n e in
+      (h .0, ap (λ (x : Reader). recording (recordAfter r b (x .standing)) x) (h .1))
 
   pub form-on : answerTo r b .reader .form ≡ r .form
   unfolding answerTo
-  form-on = form-standing (r .standing)
+  form-on = form-standing (recording 0 r) b (r .standing)
+
+-- in 7-bit form GR shows G1 where it did
+shows-in : (r : Reader) (b : ℕ) (s : Standing) → (r .form ≡ Seven → r .gr ≡ G1) → r .form ≡ Seven → answerStanding s b r .reader .gr ≡ G1
+unfolding answerLost
+shows-in r b (Standing.InStep w) shows seven = in-step-lawful r b w .1 seven ∙ shows seven
+shows-in r b (Standing.Lost k n) shows seven =
+    gives-has (λ (a : Answered). a .reader .gr ≡ G1) (eqb (matchedWith (r .form) k b) (length (opening (r .form)))) refl (shows seven)
+
+pub shows-on : (r : Reader) (b : ℕ) → (r .form ≡ Seven → r .gr ≡ G1) →
+    answerTo r b .reader .form ≡ Seven → answerTo r b .reader .gr ≡ G1
+unfolding answerTo
+shows-on r b shows seven = shows-in (recording 0 r) b (r .standing) shows (sym (form-on r b) ∙ seven)
 
 -- a text does not change the form
 pub form-after : (l : List ℕ) (r : Reader) → readerAfter r l .form ≡ r .form

@@ -11,8 +11,12 @@ pub mod ThereAndBack
 pub mod BackAndThere
 pub mod NumbersTellAnswersApart
 pub mod ListsThatEnd
+pub mod BeginningsByteByByte
+pub mod BeginningsThatFallBack
+pub mod RecordsOfOpenings
 pub mod LawfulAnswers
 pub mod TextsThatGoOn
+pub mod AnswersWithoutTheRecord
 pub mod OffsetsOfALaterText
 pub mod AByteMoreWhileLost
 pub mod LostReadersSearch
@@ -22,6 +26,9 @@ pub mod AnOpeningInStep
 pub mod LostSinceARefusal
 pub mod ReadersThatTextsLeadTo
 pub mod OpeningMakesTheStart
+pub mod MarksByWhatStandsThere
+pub mod RecordsNotCompleted
+pub mod OpeningsTakenWhole
 pub mod SilenceAndInStepAgain
 pub mod SilenceAndInStepAgainWorked
 pub mod WrittenTurnByTurn

@@ -10,9 +10,9 @@ use native.Mathlib.Nat.{le-of-suc-le-suc, eq-or-lt-of-le}
 use borrow.Author.Tests.{eqb-true, eq-eqb}
 use lib.Dec.{eqb}
 use lib.ListN.{take, drop, length, length-append, take-append-drop}
-use lib.Seq.{drop-at}
+use lib.Seq.{drop-at, take-append-seam}
 use Rattle.paper.specs.Choice.{_gives_or_}
-use Rattle.paper.specs.Searching.{sameOn, same, endsWith, longest}
+use Rattle.paper.specs.Searching.{sameOn, same, beginsWith, endsWith, longest}
 use Rattle.paper.proofs.Choices.{impossible}
 
 -- the bytes w end with p
@@ -36,6 +36,33 @@ same-on far (b ∷ bs) (c ∷ cs) e =
 same-self : (bs : List ℕ) → same bs bs ≡ true
 same-self [] = refl
 same-self (b ∷ bs) = rw (eq-eqb b b refl) (same-self bs)
+
+-- ---- bytes that begin with others
+
+pub begins-rest : (bs start : List ℕ) → beginsWith bs start ≡ true → bs ≡ start ++ drop (length start) bs
+begins-rest bs start e =
+    sym (take-append-drop (length start) bs) ∙
+    ap (λ (l : List ℕ). l ++ drop (length start) bs) (same-on true (take (length start) bs) start e .1)
+
+-- byte by byte
+none-same : (bs cs : List ℕ) → sameOn false bs cs ≡ false
+none-same [] [] = refl
+none-same [] (c ∷ cs) = refl
+none-same (b ∷ bs) [] = refl
+none-same (b ∷ bs) (c ∷ cs) = none-same bs cs
+
+pub begins-byte : (b : ℕ) (bs : List ℕ) (c : ℕ) (cs : List ℕ) →
+    beginsWith (b ∷ bs) (c ∷ cs) ≡ (eqb b c gives beginsWith bs cs or false)
+begins-byte b bs c cs = by (eqb b c)
+  where
+    by : (t : Bool) → sameOn t (take (length cs) bs) cs ≡ (t gives beginsWith bs cs or false)
+    by true = refl
+    by false = none-same (take (length cs) bs) cs
+
+pub rest-begins : (start rest : List ℕ) → beginsWith (start ++ rest) start ≡ true
+rest-begins start rest = rw (take-append-seam start rest) (same-self start)
+
+-- ---- bytes that end with others
 
 pub ends-tail : (w p : List ℕ) → endsWith w p ≡ true → Tail w p
 ends-tail w p e =

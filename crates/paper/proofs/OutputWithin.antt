@@ -1,13 +1,13 @@
 -- What is written in either form for any text has at most three times the text's bytes, by one walk over the definitions: an answer
 -- writes at most three bytes for each byte of its unit, the bytes of what is read so far counted until it is answered. A byte of GR
 -- where GR shows G2 or G3 takes three in 7-bit form.
-use Prim.Native.Nat.{ℕ, suc, _+_, _-_, _*_, _≤_}
-use mathlib.Core.Path.{sym, subst}
-use mathlib.Core.List.{List, [], _∷_}
+use Prim.Native.Nat.{ℕ, _+_, _-_, _*_, _≤_}
+use mathlib.Core.Path.{_≡_, refl, sym, subst}
+use mathlib.Core.List.{List, _∷_, _++_}
 use native.Mathlib.Omega.{arith}
 use lib.Dec.{ltb, leb, eqb}
 use lib.ListN.{length, length-append}
-use Rattle.paper.specs.Words.{Form, Area, Element, Set, SetByte, OfSpace, OfDelete, OfSet, Outside, SequenceByte, Intermediate, Final}
+use Rattle.paper.specs.Words.{Form, Seven, Eight, Area, Element, Set, SetByte, OfSpace, OfDelete, OfSet, Outside, SequenceByte, Intermediate, Final}
 use Rattle.paper.specs.Words.{Neither, Intermediates, Shift, LS0, LS1, LS2, LS3, LS1R, LS2R, LS3R, SS2, SS3, Meaning, NoMeaning}
 use Rattle.paper.specs.Words.{Function, Shifts, GraphicArea, PositionBytes, Within, Standing, Reader, Refusal, Answered}
 use Rattle.paper.specs.CodeTable.{areaOf, formHas, bit8, so, si, esc}
@@ -15,15 +15,18 @@ use Rattle.paper.specs.Sets.{bytesOf, setIn}
 use Rattle.paper.specs.Starting.{started, opening}
 use Rattle.paper.specs.Sequences.{functionOfSS2, functionOfSS3, lastFunction, sequenceByte, c1Function, meaningOf}
 use Rattle.paper.specs.Searching.{matchedWith, oneMore}
+use Rattle.paper.specs.Marks.{recording}
 use Rattle.paper.specs.Characters.{refuses, afterShift, c0Byte, positionIn, byteIn, bytesSoFar, withByte, character, ofCharacter}
 use Rattle.paper.specs.Characters.{firstInGL}
 use Rattle.paper.specs.Answering.{means, intermediate, sequenceAt, groundAt, answerWithin, answerInStep, answerSearching}
-use Rattle.paper.specs.Answering.{answerLost, answerStanding, answerTo}
-use Rattle.paper.specs.Texts.{answersFrom}
-use Rattle.paper.specs.WrittenForms.{sequenceIn, Writer, writerAtStart, writtenFor, writerAfter, writtenFrom}
+use Rattle.paper.specs.Answering.{answerLost, answerStanding}
+use Rattle.paper.specs.WrittenForms.{Entry, withAnswer, Writer, writerAtStart, writtenFor, writerAfter, writtenFrom}
 use Rattle.paper.specs.Conversions.{output}
 use Rattle.paper.proofs.Choices.{gives-has}
+use Rattle.paper.proofs.AnswersWithoutTheRecord.{answerOf}
+use Rattle.paper.proofs.OpeningsTakenWhole.{withOpening, ShowsG1, by-openings}
 use Rattle.paper.proofs.WrittenTurnByTurn.{one-turn}
+use Rattle.paper.proofs.WrittenAnswersReadBack.{written-opening}
 use Rattle.paper.proofs.MostWritten.{howManyIntermediates, mostWritten, most-written}
 
 -- how many bytes of a unit are read so far
@@ -145,27 +148,45 @@ module _ (r : Reader) (b : ℕ) where
       gives-has (Paid (readOf w)) (formHas (r .form) b) (paid-within w) (paid-refusal (readOf w) Refusal.ByteOfEightBits)
   paid-standing (Standing.Lost k n) = paid-searching (matchedWith (r .form) k b) (oneMore n)
 
-  paid : Paid (readSoFar (r .standing)) (answerTo r b)
-  unfolding answerTo
-  paid = paid-standing (r .standing)
-
 -- ---- a text
 
-within-from : (to : Form) (l : List ℕ) (w : Writer) (r : Reader) (at : ℕ) →
-    length (writtenFrom to w (sequenceIn (answersFrom at r l))) ≤ 3 * (readSoFar (r .standing) + length l)
-within-from to [] w r at = omega arith
-within-from to (b ∷ bs) w r at =
-    let a = answerTo r b .answer in
-    let next : Reader = answerTo r b .reader in
-    let rest : List ℕ = writtenFrom to (writerAfter to w a) (sequenceIn (answersFrom (suc at) next bs)) in
-    subst (λ (bytes : List ℕ). length bytes ≤ 3 * (readSoFar (r .standing) + length (b ∷ bs))) (sym (one-turn to w at r b bs))
+abbrev Fits : Reader → List ℕ → List Entry → Type 0
+Fits r text l = (to : Form) (w : Writer) → length (writtenFrom to w l) ≤ 3 * (readSoFar (r .standing) + length text)
+
+fits-byte : (r : Reader) (b : ℕ) (bs : List ℕ) (l : List Entry) → Fits (answerOf r b .reader) bs l →
+    Fits r (b ∷ bs) (withAnswer (answerOf r b .answer) l)
+fits-byte r b bs l more to w =
+    let a = answerOf r b .answer in
+    let rest : List ℕ = writtenFrom to (writerAfter to w a) l in
+    subst (λ (bytes : List ℕ). length bytes ≤ 3 * (readSoFar (r .standing) + length (b ∷ bs))) (sym (one-turn a to w l))
     (omega (
       arith,
       length-append (writtenFor to w a) rest,
       most-written a to w,
-      paid r b,
-      within-from to bs (writerAfter to w a) next (suc at),
+      paid-standing (recording 0 r) b (r .standing),
+      more to (writerAfter to w a),
+    ))
+
+opening-bounds : (m : Form) → (20 ≤ length (opening m)) × (length (opening m) ≤ 21)
+opening-bounds Seven = (omega arith, omega arith)
+opening-bounds Eight = (omega arith, omega arith)
+
+-- an opening has 20 bytes at least, and is written as one of 21 at most
+fits-opening : (r : Reader) (rest : List ℕ) (l : List Entry) → r .standing ≡ Standing.InStep Within.Ground → ShowsG1 r →
+    Fits (started (r .form)) rest l → Fits r (opening (r .form) ++ rest) (withOpening l)
+fits-opening r rest l ground shows more to w =
+    let written : List ℕ = writtenFrom to writerAtStart l in
+    subst (λ (bytes : List ℕ). length bytes ≤ 3 * (readSoFar (r .standing) + length (opening (r .form) ++ rest)))
+    (sym (written-opening to w l))
+    (omega (
+      arith,
+      length-append (opening to) written,
+      length-append (opening (r .form)) rest,
+      opening-bounds to,
+      opening-bounds (r .form),
+      more to writerAtStart,
     ))
 
 pub output-within : (from to : Form) (text : List ℕ) → length (output from to text) ≤ 3 * length text
-output-within from to text = omega (arith, within-from to text writerAtStart (started from) 0)
+output-within from to text =
+    omega (arith, by-openings Fits (λ r to w. omega arith) fits-byte fits-opening text (started from) (λ seven. refl) to writerAtStart)

@@ -1,87 +1,114 @@
 -- What every reader has that a text leads to, by what each answer leaves. In 7-bit form GR shows G1, as at the start: nothing moves
--- it there. A lost reader keeps what the search needs of the bytes that it has seen.
+-- it there. A reader in step has recorded what there is of an opening at the end of the bytes since the start, or since the latest
+-- instep. A lost reader has recorded nothing, and keeps what the search needs of the bytes that it has seen.
 use Prim.Native.Nat.{ℕ}
 use mathlib.Core.Path.{_≡_, refl, sym, _∙_, subst}
 use mathlib.Core.Bool.{Bool, true, false}
 use mathlib.Core.List.{List, [], _∷_, _++_}
-use Rattle.paper.specs.Words.{Form, Seven, G1, Standing, Reader, Answer, Answered}
+use Rattle.paper.specs.Words.{Form, Seven, G1, Within, Standing, Reader, Answer, Answered}
 use Rattle.paper.specs.Starting.{started, opening}
 use Rattle.paper.specs.Searching.{endsWith}
+use Rattle.paper.specs.Marks.{recording, recordAfter}
 use Rattle.paper.specs.Characters.{standingAt}
-use Rattle.paper.specs.Answering.{answerInStep, answerTo}
-use Rattle.paper.specs.Texts.{readerAfter}
+use Rattle.paper.specs.Answering.{answerTo}
+use Rattle.paper.specs.Texts.{readerAfter, sinceWith, sinceFrom, sinceInStep}
 use Rattle.paper.proofs.LawfulAnswers.{IsInStep, Leaves, in-step-lawful, form-on}
+use Rattle.paper.proofs.AnswersWithoutTheRecord.{answerOf}
+use Rattle.paper.proofs.RecordsOfOpenings.{Noted, noted-on, noted-none}
 use Rattle.paper.proofs.AByteMoreWhileLost.{Kept, lost, found, not-found, still-kept, kept-first}
 
 pub record Since (m : Form) (k n : ℕ) : Type 0 where
   pub seen : List ℕ
   pub kept : Kept m seen k n
 
-abbrev pub KeptIn : Form → Standing → Type 0
-KeptIn m (Standing.InStep w) = Unit {0}
-KeptIn m (Standing.Lost k n) = Since m k n
+abbrev pub KeptIn : Form → List ℕ → Standing → ℕ → Type 0
+KeptIn m since (Standing.InStep w) recorded = Noted m since recorded
+KeptIn m since (Standing.Lost k n) recorded = Since m k n × (recorded ≡ 0)
 
-pub record Reached (r : Reader) : Type 0 where
+pub record Reached (since : List ℕ) (r : Reader) : Type 0 where
   pub gr-shows-g1 : r .form ≡ Seven → r .gr ≡ G1
-  pub keeps : KeptIn (r .form) (r .standing)
+  pub keeps : KeptIn (r .form) since (r .standing) (r .gone)
 
--- ---- after an answer of a reader in step
+-- of the reader after an answer, in terms of the form before it
+abbrev After : Form → List ℕ → ℕ → Answered → Type 0
+After m since b a =
+    (m ≡ Seven → a .reader .gr ≡ G1) × KeptIn m (sinceWith (a .answer) since b) (a .reader .standing) (a .reader .gone)
 
-module _ (r : Reader) (b : ℕ) where
-  in-step : (s : Standing) → IsInStep s → KeptIn (r .form) s
-  in-step (Standing.InStep w) h = tt
-  in-step (Standing.Lost k n) h = absurd h
+module _ (r : Reader) (since : List ℕ) (b : ℕ) (g : r .form ≡ Seven → r .gr ≡ G1) where
+  -- ---- after an answer of a reader in step
 
-  kept-after : (a : Answer) (next : Reader) → Leaves r b a next → KeptIn (r .form) (next .standing)
-  kept-after Answer.NothingYet next h = in-step (next .standing) h
-  kept-after (Answer.Char e x p) next h = in-step (next .standing) h
-  kept-after Answer.Space next h = in-step (next .standing) h
-  kept-after Answer.Delete next h = in-step (next .standing) h
-  kept-after (Answer.Control w f n) next h = in-step (next .standing) h
-  kept-after (Answer.DesignateControls w f) next h = in-step (next .standing) h
-  kept-after (Answer.Designate e x) next h = in-step (next .standing) h
-  kept-after (Answer.Shift s) next h = in-step (next .standing) h
-  kept-after (Answer.Other s f) next h = in-step (next .standing) h
-  kept-after (Answer.Refused n) next h =
-      subst (λ (x : Reader). KeptIn (r .form) (x .standing)) (sym (h .1)) (record { seen = b ∷ []; kept = kept-first (r .form) b })
-  kept-after Answer.Skipped next h = absurd h
-  kept-after (Answer.InStep n) next h = absurd h
+  module _ (w : Within) (noted : Noted (r .form) since (r .gone)) where
+    abbrev now : Reader
+    now = standingAt (Standing.InStep w) r
 
--- ---- after any answer
+    abbrev Keeps : Answer → Standing → Type 0
+    Keeps a next = KeptIn (r .form) (sinceWith a since b) next (recordAfter now b next)
 
--- of the reader after it, in terms of the form before it
-abbrev AfterAnswer : Reader → Answered → Type 0
-AfterAnswer r a = (r .form ≡ Seven → a .reader .gr ≡ G1) × KeptIn (r .form) (a .reader .standing)
+    in-step : (s : Standing) → IsInStep s → KeptIn (r .form) (since ++ (b ∷ [])) s (recordAfter now b s)
+    in-step (Standing.InStep v) h = noted-on (r .form) since (r .gone) b noted
+    in-step (Standing.Lost k n) h = absurd h
 
-module _ (r : Reader) (b : ℕ) (g : r .form ≡ Seven → r .gr ≡ G1) where
-  after-lost : (k n : ℕ) → Since (r .form) k n → AfterAnswer r (answerTo (lost r k n) b)
-  after-lost k n since = by (endsWith (since .seen ++ (b ∷ [])) (opening (r .form))) refl
+    kept-after : (a : Answer) (next : Reader) → Leaves (recording 0 now) b a next → Keeps a (next .standing)
+    kept-after Answer.NothingYet next h = in-step (next .standing) h
+    kept-after (Answer.Char e x p) next h = in-step (next .standing) h
+    kept-after Answer.Space next h = in-step (next .standing) h
+    kept-after Answer.Delete next h = in-step (next .standing) h
+    kept-after (Answer.Control v f n) next h = in-step (next .standing) h
+    kept-after (Answer.DesignateControls v f) next h = in-step (next .standing) h
+    kept-after (Answer.Designate e x) next h = in-step (next .standing) h
+    kept-after (Answer.Shift s) next h = in-step (next .standing) h
+    kept-after (Answer.Other s f) next h = in-step (next .standing) h
+    kept-after (Answer.Refused n) next h =
+        subst (λ (x : Reader). Keeps (Answer.Refused n) (x .standing)) (sym (h .1))
+        (record { seen = b ∷ []; kept = kept-first (r .form) b }, refl)
+    kept-after Answer.Skipped next h = absurd h
+    kept-after (Answer.InStep n) next h = absurd h
+
+    after-in-step : After (r .form) since b (answerTo now b)
+    unfolding answerTo
+    after-in-step =
+        let law = in-step-lawful (recording 0 now) b w in
+        let a : Answered = answerOf now b in
+        (λ seven. law .1 seven ∙ g seven, kept-after (a .answer) (a .reader) (law .2))
+
+  -- ---- after an answer of a lost reader
+
+  after-lost : (k n : ℕ) → Since (r .form) k n → After (r .form) since b (answerTo (lost r k n) b)
+  after-lost k n search = by (endsWith (search .seen ++ (b ∷ [])) (opening (r .form))) refl
     where
-      by : (t : Bool) → endsWith (since .seen ++ (b ∷ [])) (opening (r .form)) ≡ t → AfterAnswer r (answerTo (lost r k n) b)
-      by true e = subst (AfterAnswer r) (sym (found r (since .seen) k n b (since .kept) e)) (λ seven. refl, tt)
+      by : (t : Bool) → endsWith (search .seen ++ (b ∷ [])) (opening (r .form)) ≡ t → After (r .form) since b (answerTo (lost r k n) b)
+      by true e =
+          subst (After (r .form) since b) (sym (found r (search .seen) k n b (search .kept) e)) (λ seven. refl, noted-none (r .form))
       by false e =
-          subst (AfterAnswer r) (sym (not-found r (since .seen) k n b (since .kept) e))
-          (g, record { seen = since .seen ++ (b ∷ []); kept = still-kept r (since .seen) k n b (since .kept) })
+          subst (After (r .form) since b) (sym (not-found r (search .seen) k n b (search .kept) e))
+          (g, (record { seen = search .seen ++ (b ∷ []); kept = still-kept r (search .seen) k n b (search .kept) }, refl))
 
-  after-answer : (s : Standing) → KeptIn (r .form) s → AfterAnswer r (answerTo (standingAt s r) b)
-  unfolding answerTo
-  after-answer (Standing.InStep w) h =
-      let now : Reader = standingAt (Standing.InStep w) r in
-      let law = in-step-lawful now b w in
-      (λ seven. law .1 seven ∙ g seven, kept-after now b (answerInStep w b now .answer) (answerInStep w b now .reader) (law .2))
-  after-answer (Standing.Lost k n) h = after-lost k n h
+  -- ---- after any answer
 
-reached-on : (r : Reader) (b : ℕ) → Reached r → Reached (answerTo r b .reader)
-reached-on r b h =
-    let law : AfterAnswer r (answerTo r b) = after-answer r b (h .gr-shows-g1) (r .standing) (h .keeps) in
+  after-answer : (s : Standing) → KeptIn (r .form) since s (r .gone) → After (r .form) since b (answerTo (standingAt s r) b)
+  after-answer (Standing.InStep w) h = after-in-step w h
+  after-answer (Standing.Lost k n) h =
+      subst (λ (x : Reader). After (r .form) since b (answerTo (standingAt (Standing.Lost k n) x) b)) (λ i. recording (sym (h .1) i) r)
+      (after-lost k n (h .0))
+
+pub reached-on : (r : Reader) (since : List ℕ) (b : ℕ) → Reached since r →
+    Reached (sinceWith (answerTo r b .answer) since b) (answerTo r b .reader)
+reached-on r since b h =
+    let law : After (r .form) since b (answerTo r b) = after-answer r since b (h .gr-shows-g1) (r .standing) (h .keeps) in
+    let next : Reader = answerTo r b .reader in
     record {
       gr-shows-g1 = λ seven. law .0 (sym (form-on r b) ∙ seven);
-      keeps = subst (λ (m : Form). KeptIn m (answerTo r b .reader .standing)) (sym (form-on r b)) (law .1);
+      keeps = subst (λ (m : Form). KeptIn m (sinceWith (answerTo r b .answer) since b) (next .standing) (next .gone)) (sym (form-on r b))
+          (law .1);
     }
 
-reached-from : (l : List ℕ) (r : Reader) → Reached r → Reached (readerAfter r l)
-reached-from [] r h = h
-reached-from (b ∷ bs) r h = reached-from bs (answerTo r b .reader) (reached-on r b h)
+reached-from : (l : List ℕ) (r : Reader) (since : List ℕ) → Reached since r → Reached (sinceFrom r since l) (readerAfter r l)
+reached-from [] r since h = h
+reached-from (b ∷ bs) r since h =
+    reached-from bs (answerTo r b .reader) (sinceWith (answerTo r b .answer) since b) (reached-on r since b h)
 
-pub reached : (m : Form) (text : List ℕ) → Reached (readerAfter (started m) text)
-reached m text = reached-from text (started m) (record { gr-shows-g1 = λ seven. refl; keeps = tt })
+pub reached-at-start : (m : Form) → Reached [] (started m)
+reached-at-start m = record { gr-shows-g1 = λ seven. refl; keeps = noted-none m }
+
+pub reached : (m : Form) (text : List ℕ) → Reached (sinceInStep m text) (readerAfter (started m) text)
+reached m text = reached-from text (started m) [] (reached-at-start m)

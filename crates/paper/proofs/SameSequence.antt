@@ -1,7 +1,7 @@
 -- Demand 2. A text that is accepted in one form is written in either form as a text that is accepted there, ends whole and reads as the
 -- same sequence: what a reader hands out can be written, and what can be written is read back. So a conversion can be converted back.
 use Prim.Native.Nat.{ℕ, _≤_}
-use mathlib.Core.Path.{_≡_, refl, ap, _∙_, subst}
+use mathlib.Core.Path.{_≡_, refl, sym, ap, _∙_, subst}
 use mathlib.Core.Bool.{Bool}
 use mathlib.Core.List.{List}
 use native.Mathlib.Omega.{arith}
@@ -9,31 +9,30 @@ use borrow.Author.Tests.{le-leb}
 use lib.Dec.{leb}
 use lib.ListN.{length}
 use Rattle.paper.specs.Choice.{_gives_or_}
-use Rattle.paper.specs.Words.{Form, Seven, Eight, Reader, Refusal, EndWord, FirstRefusal, Never, First, Converted}
+use Rattle.paper.specs.Words.{Form, Reader, Refusal, EndWord, FirstRefusal, Never, First, Converted}
 use Rattle.paper.specs.Starting.{started}
 use Rattle.paper.specs.Refusals.{longestText}
 use Rattle.paper.specs.Texts.{answersOf, endWord}
 use Rattle.paper.specs.Surveying.{firstRefusal, firstOf}
-use Rattle.paper.specs.WrittenForms.{sequenceOf, writerAtStart}
+use Rattle.paper.specs.WrittenForms.{Entry, sequenceOf, writerAtStart, written}
 use Rattle.paper.specs.Conversions.{refusalAtEnd, Accepted, output, intoRoom, conversion, refusalIn}
 use Rattle.paper.proofs.Choices.{impossible, gives-has}
+use Rattle.paper.proofs.WhatCanBeWritten.{entriesOf}
 use Rattle.paper.proofs.WhatIsReadCanBeWritten.{can-be-written}
 use Rattle.paper.proofs.ReadingOn.{ReadsAs}
-use Rattle.paper.proofs.WrittenAnswersReadBack.{readerOf, sequence-reads-back}
+use Rattle.paper.proofs.WrittenAnswersReadBack.{reader-at-start, sequence-reads-back}
 
 first-never : (x y : FirstRefusal) → firstOf x y ≡ Never → x ≡ Never
 first-never Never y e = refl
 first-never (First r at) y e = impossible (cc)
 
-reader-at-start : (m : Form) → readerOf m writerAtStart ≡ started m
-reader-at-start Seven = refl
-reader-at-start Eight = refl
-
 output-reads-back : (from to : Form) (text : List ℕ) → firstRefusal (answersOf from text) ≡ Never →
     ReadsAs (started to) (output from to text) (sequenceOf from text)
 output-reads-back from to text never =
-    subst (λ (r : Reader). ReadsAs r (output from to text) (sequenceOf from text)) (reader-at-start to)
-    (sequence-reads-back to (sequenceOf from text) writerAtStart refl (can-be-written text (started from) 0 tt never))
+    let can = can-be-written from text never in
+    subst (λ (l : List Entry). ReadsAs (started to) (written to l) l) (sym (can .is))
+    (subst (λ (r : Reader). ReadsAs r (written to (entriesOf (can .steps))) (entriesOf (can .steps))) (reader-at-start to)
+    (sequence-reads-back to (can .steps) writerAtStart refl (can .all)))
 
 -- what refuses nothing and ends whole is accepted
 accepted-where : (m : Form) (text : List ℕ) → firstRefusal (answersOf m text) ≡ Never → endWord m text ≡ EndWord.Whole → Accepted m text
@@ -48,7 +47,7 @@ pub same-sequence : (from to : Form) (text : List ℕ) → Accepted from text �
 same-sequence from to text accepted =
     let never = first-never (firstRefusal (answersOf from text)) (refusalAtEnd (endWord from text) (length text)) accepted in
     let reads = output-reads-back from to text never in
-    (accepted-where to (output from to text) (reads .never 0) (reads .whole), reads .whole, reads .sequence 0)
+    (accepted-where to (output from to text) (reads .never 0) (reads .whole), reads .whole, reads .sequence 0 (omega arith))
 
 -- ---- there and back
 

@@ -10,7 +10,8 @@ use Rattle.paper.specs.Words.{Form, Seven, G1, Reader, Refusal, Answer, 
 use Rattle.paper.specs.Starting.{started, opening}
 use Rattle.paper.specs.Searching.{skippedBytes}
 use Rattle.paper.specs.Answering.{endOfText}
-use Rattle.paper.specs.Texts.{readerAfter, answersFrom, answersOf, endWord, answerAfter, later, OpeningIn, NoOpeningIn}
+use Rattle.paper.specs.Texts.{readerAfter, answersFrom, answersOf, endWord, answerAfter, later, sinceInStep, OpeningIn}
+use Rattle.paper.specs.Texts.{NoOpeningIn}
 use Rattle.paper.proofs.LawfulAnswers.{form-after}
 use Rattle.paper.proofs.LostSinceARefusal.{opening-or-none, lost-since, Silent, silent-since}
 use Rattle.paper.proofs.OffsetsOfALaterText.{answers-of-a-later-text}
@@ -63,7 +64,7 @@ as-just-started form before =
     let r : Reader = readerAfter (started form) before in
     reader-on before (opening form) (started form) ∙
     subst (λ (f : Form). readerAfter r (opening f) ≡ started f) (form-after before (started form))
-    (opening-makes-the-start r (reached form before))
+    (opening-makes-the-start (sinceInStep form before) r (reached form before))
 
 -- It is so in 7-bit form too, where an opening does not touch GR: there GR shows G1 from the start on, after any text, since the
 -- shifts into GR have no meaning.

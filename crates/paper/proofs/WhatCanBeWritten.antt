@@ -13,7 +13,9 @@ use Rattle.paper.specs.CodeTable.{areaOf, so, si, esc}
 use Rattle.paper.specs.Sets.{bytesOf, setIn, setByte}
 use Rattle.paper.specs.Sequences.{sequenceByte, c1Function, meaningOf}
 use Rattle.paper.specs.Characters.{bytesSoFar}
-use Rattle.paper.specs.WrittenForms.{leftOut, setsWith}
+use Rattle.paper.specs.Starting.{startingSets}
+use Rattle.paper.specs.WrittenForms.{Entry, given, leftOut, setsWith}
+use Rattle.paper.proofs.OpeningsTakenWhole.{withOpening}
 use Rattle.paper.proofs.TableOfSequences.{Lasts}
 
 -- ---- parts of an answer
@@ -77,10 +79,27 @@ CanBeWritten t (Answer.Refused r) = ⊥
 CanBeWritten t Answer.Skipped = ⊥
 CanBeWritten t (Answer.InStep n) = ⊥
 
--- a sequence: none of its answers is one that is left out, and each can be written, by the sets at its place
-abbrev pub AllCanBeWritten : Sets → List Answer → Type 0
-AllCanBeWritten t [] = Unit {0}
-AllCanBeWritten t (a ∷ l) = (leftOut a ≡ false) × CanBeWritten t a × AllCanBeWritten (setsWith t a) l
+-- a sequence, as the steps that make it: an answer, or an opening taken whole, with its mark
+pub data Steps : Type 0 where
+  ended : Steps
+  said : Answer → Steps → Steps
+  opened : Steps → Steps
+
+abbrev pub entriesOf : Steps → List Entry
+entriesOf ended = []
+entriesOf (said a s) = given a ∷ entriesOf s
+entriesOf (opened s) = withOpening (entriesOf s)
+
+-- none of its answers is one that is left out, and each can be written, by the sets at its place
+abbrev pub AllCanBeWritten : Sets → Steps → Type 0
+AllCanBeWritten t ended = Unit {0}
+AllCanBeWritten t (said a s) = (leftOut a ≡ false) × CanBeWritten t a × AllCanBeWritten (setsWith t a) s
+AllCanBeWritten t (opened s) = AllCanBeWritten startingSets s
+
+pub record InSteps (t : Sets) (l : List Entry) : Type 0 where
+  pub steps : Steps
+  pub is : l ≡ entriesOf steps
+  pub all : AllCanBeWritten t steps
 
 -- ---- what is read so far
 

@@ -1,30 +1,38 @@
 -- What a reader in step hands out can be written, by one walk over the definitions; and so, answer by answer, is the sequence of
 -- every text without a refusal. Carried along is that what is read so far of a sequence or a character is fit to become one.
 use Prim.Native.Nat.{ℕ, suc, _-_, _≤_, _<_}
-use mathlib.Core.Path.{_≡_, refl, subst, ap}
-use mathlib.Core.List.{List, [], _∷_}
+use mathlib.Core.Path.{_≡_, refl, sym, ap, _∙_, subst}
+use mathlib.Core.Bool.{false}
+use mathlib.Core.List.{List, [], _∷_, _++_}
 use native.Mathlib.Omega.{arith}
 use borrow.Author.Tests.{ltb-true, ltb-false}
 use lib.Dec.{ltb, leb, eqb}
-use Rattle.paper.specs.Choice.{_gives_or_}
-use Rattle.paper.specs.Words.{Form, Seven, Eight, Area, Element, Kind, Count, Sets, SetByte, OfSpace, OfDelete, OfSet, Outside}
+use Rattle.paper.specs.Choice.{_gives_or_, between}
+use Rattle.paper.specs.Words.{Form, Seven, Eight, Area, Element, G1, Kind, Count, Sets, SetByte, OfSpace, OfDelete, OfSet, Outside}
 use Rattle.paper.specs.Words.{SequenceByte, Intermediate, Final, Neither, Intermediates, Shift, LS0, LS1, LS2, LS3, LS1R, LS2R}
 use Rattle.paper.specs.Words.{LS3R, SS2, SS3, Meaning, NoMeaning, Function, Shifts, GraphicArea, PositionBytes, Within, Standing}
 use Rattle.paper.specs.Words.{Reader, Refusal, Answer, Answered, FirstRefusal, Never}
-use Rattle.paper.specs.CodeTable.{areaOf, formHas, bit8, so, si, esc}
+use Rattle.paper.specs.CodeTable.{areaOf, formHas, columnArea, formHasColumn, positionOf, bit8, so, si, esc}
 use Rattle.paper.specs.Sets.{bytesOf, setIn, setByte}
+use Rattle.paper.specs.Starting.{startingSets, started, opening}
 use Rattle.paper.specs.Sequences.{functionOfSS2, functionOfSS3, lastFunction, sequenceByte, c1Function, meaningOf, rightShift}
+use Rattle.paper.specs.Sequences.{shiftOrOther, meaningOfNone, designation, byIntermediate, meaningOfOne}
+use Rattle.paper.specs.Searching.{matchedWith, oneMore}
+use Rattle.paper.specs.Marks.{recording}
 use Rattle.paper.specs.Characters.{refuses, c0Byte, positionIn, byteIn, bytesSoFar, withByte, character, ofCharacter, firstInGL}
-use Rattle.paper.specs.Characters.{afterShift}
-use Rattle.paper.specs.Answering.{means, intermediate, sequenceAt, groundAt, answerWithin, answerInStep, answerStanding, answerTo}
-use Rattle.paper.specs.Texts.{answersFrom}
+use Rattle.paper.specs.Characters.{standingAt, afterShift}
+use Rattle.paper.specs.Answering.{means, intermediate, sequenceAt, groundAt, answerWithin, answerInStep, answerLost}
+use Rattle.paper.specs.Answering.{answerStanding, answerTo}
+use Rattle.paper.specs.Texts.{answersFrom, answersOf}
 use Rattle.paper.specs.Surveying.{firstRefusal, refusalOr}
-use Rattle.paper.specs.WrittenForms.{leftOut, sequenceIn, setsWith}
+use Rattle.paper.specs.WrittenForms.{Entry, given, leftOut, withAnswer, sequenceOf, setsWith}
 use Rattle.paper.proofs.Choices.{impossible, gives-has, gives-by}
 use Rattle.paper.proofs.TableOfSequences.{Lasts, Rows, every-meaning}
 use Rattle.paper.proofs.LawfulAnswers.{IsInStep}
+use Rattle.paper.proofs.AnswersWithoutTheRecord.{answerOf, recordOf, answers-alike}
+use Rattle.paper.proofs.OpeningsTakenWhole.{withOpening, onGround, ShowsG1, by-openings}
 use Rattle.paper.proofs.WrittenTurnByTurn.{later-refuse-nothing, sets-by-the-answer}
-use Rattle.paper.proofs.WhatCanBeWritten.{AllOfSet, AllIntermediate, MayHave, CanBeWritten, AllCanBeWritten}
+use Rattle.paper.proofs.WhatCanBeWritten.{AllOfSet, AllIntermediate, MayHave, CanBeWritten, ended, said, opened, InSteps}
 use Rattle.paper.proofs.WhatCanBeWritten.{SoFar, Stands, NotRefused}
 use Rattle.paper.proofs.OtherInAnyForm.{other-in-any-form}
 
@@ -197,10 +205,6 @@ module _ (r : Reader) (b : ℕ) where
       gives-has Fair (formHas (r .form) b) (fair-within w h) (fair-refusal Refusal.ByteOfEightBits)
   fair-standing (Standing.Lost k n) h = absurd h
 
-  fair-answer : Stands (r .sets) (r .standing) → Fair (answerTo r b)
-  unfolding answerTo
-  fair-answer h = fair-standing (r .standing) h
-
 -- ---- a text
 
 stands-in-step : (t : Sets) (s : Standing) → Stands t s → IsInStep s
@@ -212,30 +216,73 @@ not-refused : (a : Answer) (at : ℕ) (later : FirstRefusal) → refusalOr later
 not-refused a at later h n e = impossible (cc (ap (refusalOr later at) e))
 
 -- an answer that can be written joins what can be written, or is left out
-joins : (a : Answer) (t : Sets) (l : List Answer) → CanBeWritten t a → AllCanBeWritten (setsWith t a) l →
-    AllCanBeWritten t (leftOut a gives l or a ∷ l)
+one-more : (a : Answer) (t : Sets) (l : List Entry) → leftOut a ≡ false → CanBeWritten t a → InSteps (setsWith t a) l → InSteps t (given a ∷ l)
+one-more a t l stays h more = record {
+  steps = said a (more .steps);
+  is = ap (λ (l : List Entry). given a ∷ l) (more .is);
+  all = (stays, h, more .all);
+}
+
+joins : (a : Answer) (t : Sets) (l : List Entry) → CanBeWritten t a → InSteps (setsWith t a) l → InSteps t (withAnswer a l)
 joins Answer.NothingYet t l h more = more
-joins (Answer.Char e x p) t l h more = (refl, h, more)
-joins Answer.Space t l h more = (refl, h, more)
-joins Answer.Delete t l h more = (refl, h, more)
-joins (Answer.Control w f n) t l h more = (refl, h, more)
-joins (Answer.DesignateControls w f) t l h more = (refl, h, more)
-joins (Answer.Designate e x) t l h more = (refl, h, more)
+joins (Answer.Char e x p) t l h more = one-more (Answer.Char e x p) t l refl h more
+joins Answer.Space t l h more = one-more Answer.Space t l refl h more
+joins Answer.Delete t l h more = one-more Answer.Delete t l refl h more
+joins (Answer.Control w f n) t l h more = one-more (Answer.Control w f n) t l refl h more
+joins (Answer.DesignateControls w f) t l h more = one-more (Answer.DesignateControls w f) t l refl h more
+joins (Answer.Designate e x) t l h more = one-more (Answer.Designate e x) t l refl h more
 joins (Answer.Shift s) t l h more = more
-joins (Answer.Other s f) t l h more = (refl, h, more)
+joins (Answer.Other s f) t l h more = one-more (Answer.Other s f) t l refl h more
 joins (Answer.Refused n) t l h more = absurd h
 joins Answer.Skipped t l h more = absurd h
 joins (Answer.InStep n) t l h more = absurd h
 
-pub can-be-written : (l : List ℕ) (r : Reader) (at : ℕ) → Stands (r .sets) (r .standing) → firstRefusal (answersFrom at r l) ≡ Never →
-    AllCanBeWritten (r .sets) (sequenceIn (answersFrom at r l))
-can-be-written [] r at h never = tt
-can-be-written (b ∷ bs) r at h never =
-    let a = answerTo r b .answer in
-    let next : Reader = answerTo r b .reader in
-    let later : FirstRefusal = firstRefusal (answersFrom (suc at) next bs) in
-    let fair = fair-answer r b h (not-refused a at later never) in
-    joins a (r .sets) (sequenceIn (answersFrom (suc at) next bs)) (fair .0)
-    (subst (λ (t : Sets). AllCanBeWritten t (sequenceIn (answersFrom (suc at) next bs)))
-    (sets-by-the-answer r b (stands-in-step (r .sets) (r .standing) h))
-    (can-be-written bs next (suc at) (fair .1) (later-refuse-nothing a at later never)))
+-- of a text from a reader: where it refuses nothing, its sequence can be written
+abbrev Written : Reader → List ℕ → List Entry → Type 0
+Written r text l = (at : ℕ) → Stands (r .sets) (r .standing) → firstRefusal (answersFrom at r text) ≡ Never → InSteps (r .sets) l
+
+written-byte : (r : Reader) (b : ℕ) (bs : List ℕ) (l : List Entry) → Written (answerOf r b .reader) bs l →
+    Written r (b ∷ bs) (withAnswer (answerOf r b .answer) l)
+unfolding answerTo
+written-byte r b bs l more at h never =
+    let a = answerOf r b .answer in
+    let next : Reader = answerOf r b .reader in
+    let later : FirstRefusal = firstRefusal (answersFrom (suc at) (answerTo r b .reader) bs) in
+    let fair = fair-standing (recording 0 r) b (r .standing) h (not-refused a at later never) in
+    joins a (r .sets) l (fair .0)
+    (subst (λ (t : Sets). InSteps t l) (sets-by-the-answer r b (stands-in-step (r .sets) (r .standing) h))
+    (more (suc at) (fair .1)
+    (ap firstRefusal (answers-alike bs (suc at) (next .gone) (recordOf r b) next) ∙ later-refuse-nothing a at later never)))
+
+-- where a reader on the ground refuses nothing in an opening and what follows it, a reader just started refuses nothing in that
+abbrev pub past : ℕ → List ℕ → ℕ
+past at [] = at
+past at (b ∷ bs) = past (suc at) bs
+
+abbrev pub fromOpening : Form → ℕ → List ℕ → FirstRefusal
+fromOpening m at rest = firstRefusal (answersFrom (past at (opening m)) (started m) rest)
+
+pub refused-after : (m : Form) (t : Sets) (l g : Element) (at : ℕ) (rest : List ℕ) → (m ≡ Seven → g ≡ G1) →
+    firstRefusal (answersFrom at (onGround m t l g) (opening m ++ rest)) ≡ fromOpening m at rest
+unfolding between columnArea formHasColumn positionOf setByte sequenceByte c1Function shiftOrOther meaningOfNone designation
+    byIntermediate meaningOfOne matchedWith oneMore c0Byte byteIn means answerInStep answerLost answerTo
+refused-after Seven t l g at rest shows =
+    ap (λ (e : Element). firstRefusal (answersFrom at (onGround Seven t l e) (opening Seven ++ rest))) (shows refl)
+refused-after Eight t l g at rest shows = refl
+
+written-whole : (r : Reader) (rest : List ℕ) (l : List Entry) → r .standing ≡ Standing.InStep Within.Ground → ShowsG1 r →
+    Written (started (r .form)) rest l → Written r (opening (r .form) ++ rest) (withOpening l)
+written-whole r rest l ground shows more at h never =
+    let m : Form = r .form in
+    let text : List ℕ = opening m ++ rest in
+    let nothing : fromOpening m at rest ≡ Never =
+    sym (refused-after m (r .sets) (r .gl) (r .gr) at rest shows) ∙
+    ap (λ (s : Standing). firstRefusal (answersFrom at (recording 0 (standingAt s r)) text)) (sym ground) ∙
+    ap firstRefusal (answers-alike text at 0 (r .gone) r) ∙ never in
+    let after = more (past at (opening m)) tt nothing in
+    record { steps = opened (after .steps); is = ap withOpening (after .is); all = after .all }
+
+pub can-be-written : (m : Form) (text : List ℕ) → firstRefusal (answersOf m text) ≡ Never → InSteps startingSets (sequenceOf m text)
+can-be-written m text never =
+    by-openings Written (λ r at h none. record { steps = ended; is = refl; all = tt }) written-byte written-whole text (started m)
+    (λ seven. refl) 0 tt never

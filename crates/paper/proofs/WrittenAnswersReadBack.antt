@@ -1,27 +1,46 @@
 -- What is written for an answer that can be written is read as that answer, in both forms, and leaves the reader with the writer's sets
 -- and, in 7-bit form, with GL at the element that the writer has there. So a sequence that can be written is read as that sequence.
-use Prim.Native.Nat.{ℕ}
-use mathlib.Core.Path.{_≡_, refl, sym, subst}
-use mathlib.Core.Bool.{false}
+use Prim.Native.Nat.{ℕ, zero, suc, _-_, _<_, _≤_}
+use mathlib.Core.Path.{_≡_, refl, sym, ap, _∙_, subst}
+use mathlib.Core.Logic.{⊎-elim}
+use mathlib.Core.Bool.{true, false}
 use mathlib.Core.List.{List, [], _∷_, _++_, append-assoc, map}
 use native.Mathlib.Omega.{arith}
-use Rattle.paper.specs.Words.{Form, Seven, Eight, ControlElement, Element, G0, G1, G2, G3, Kind, Of94, Of96, Set, Sets, Intermediates}
-use Rattle.paper.specs.Words.{SS2, SS3, Meaning, Function, Shifts, GraphicArea, PositionBytes, Within, Reader, Answer}
-use Rattle.paper.specs.Sets.{space, delete, bytesOf, setIn}
+use native.Mathlib.Nat.{eq-or-lt-of-le}
+use lib.ListN.{take, drop, length, length-drop, take-append-drop}
+use lib.Seq.{take-append-le, take-at}
+use Rattle.paper.specs.Words.{Form, Seven, Eight, ControlElement, Element, G0, G1, G2, G3, Kind, Of94, Of96, Set, Sets, OfSet}
+use Rattle.paper.specs.Words.{Intermediates, SS2, SS3, Meaning, Function, Shifts, GraphicArea, PositionBytes, Within, Reader, Answer}
+use Rattle.paper.specs.Sets.{space, delete, bytesOf, setIn, setByte}
+use Rattle.paper.specs.CodeTable.{si}
+use Rattle.paper.specs.Choice.{between}
+use Rattle.paper.specs.Starting.{started, opening}
+use Rattle.paper.specs.Searching.{endsWith}
+use Rattle.paper.specs.Marks.{recording}
 use Rattle.paper.specs.Sequences.{functionOfSS2, functionOfSS3, c1Function, intermediateOfControls}
 use Rattle.paper.specs.Characters.{says, shifts, bytesSoFar}
-use Rattle.paper.specs.Answering.{means}
+use Rattle.paper.specs.Answering.{means, endOfText}
+use Rattle.paper.specs.Texts.{readerAfter}
 use Rattle.paper.specs.Results.{positionValues}
-use Rattle.paper.specs.WrittenForms.{leftOut, intermediatesOf, functionBytes, byteFrom, characterBytes, bytesOfAnswer, Writer}
-use Rattle.paper.specs.WrittenForms.{Locking, lockingBytes, glWith, beforeCharacter, beforeSpace, lockingInSeven, writtenFor}
-use Rattle.paper.specs.WrittenForms.{setsWith, writerAfter, writtenFrom}
+use Rattle.paper.specs.WrittenForms.{Entry, given, leftOut, sequenceFrom, intermediatesOf, functionBytes, byteFrom, characterBytes, bytesOfAnswer, Writer}
+use Rattle.paper.specs.WrittenForms.{Locking, none, shiftIn, shiftOut, lockingBytes, glWith, beforeCharacter, beforeSpace, lockingInSeven, writtenFor}
+use Rattle.paper.specs.WrittenForms.{setsWith, writerAtStart, writerAfter, writtenFrom}
 use Rattle.paper.proofs.Choices.{impossible}
-use Rattle.paper.proofs.WhatCanBeWritten.{AllOfSet, MayHave, CanBeWritten, AllCanBeWritten}
+use Rattle.paper.proofs.WhatCanBeWritten.{AllOfSet, MayHave, CanBeWritten, Steps, ended, said, opened, entriesOf, AllCanBeWritten}
+use Rattle.paper.proofs.ListsThatEnd.{tail-ends}
+use Rattle.paper.proofs.OpeningsAmongBytes.{no-overlap}
+use Rattle.paper.proofs.BeginningsThatFallBack.{without, less-without}
+use Rattle.paper.proofs.RecordsOfOpenings.{noted-none, nothing-after}
+use Rattle.paper.proofs.RecordsNotCompleted.{NotBegins, not-completed}
+use Rattle.paper.proofs.AnOpeningInStep.{from-in-step}
+use Rattle.paper.proofs.OpeningsTakenWhole.{withOpening, opening-whole}
+use Rattle.paper.proofs.TextsThatGoOn.{reader-on}
+use Rattle.paper.proofs.WhatIsReadCanBeWritten.{past, refused-after}
 use Rattle.paper.proofs.WrittenBytes.{both-have-gl, final-is, function-low}
 use Rattle.paper.proofs.WrittenDesignations.{intermediate-of-controls, designation-leads, designation-means, controls-mean}
-use Rattle.paper.proofs.ReadingOn.{ReadsAs, reads-on, readerWith}
+use Rattle.paper.proofs.ReadingOn.{ReadsAs, all-longer, reads-on, readerWith, NoShiftIn, reads-si, reads-so}
 use Rattle.paper.proofs.WrittenCharactersReadBack.{begins-in-gl, begins-in-gr, begins-shifted, reads-character}
-use Rattle.paper.proofs.WrittenSequencesReadBack.{reads-sequence, reads-c0, reads-space, reads-delete, reads-locking, reads-function}
+use Rattle.paper.proofs.WrittenSequencesReadBack.{reads-sequence, reads-c0, reads-space, reads-delete, reads-function}
 
 -- ---- what GL shows where an answer's bytes are written
 
@@ -101,7 +120,7 @@ ready-in-eight (Answer.InStep n) t g0 = tt
 
 -- ---- an answer, but for the locking shift before it
 
-module _ (t : Sets) (gl : Element) (bs : List ℕ) (l : List Answer) where
+module _ (t : Sets) (gl : Element) (bs : List ℕ) (l : List Entry) where
   abbrev ground : Form → Reader
   ground m = readerWith m t gl G1 Within.Ground
 
@@ -113,31 +132,31 @@ module _ (t : Sets) (gl : Element) (bs : List ℕ) (l : List Answer) where
     abbrev left : List ℕ
     left = map (byteFrom GraphicArea.GL) (positionValues p) ++ bs
 
-    in-gl : (m : Form) (e : Element) → gl ≡ e → Is m e → ReadsAs (ground m) left (Answer.Char e (setIn t e) p ∷ l)
+    in-gl : (m : Form) (e : Element) → gl ≡ e → Is m e → ReadsAs (ground m) left (given (Answer.Char e (setIn t e) p) ∷ l)
     in-gl m e shows h =
         reads-character m t gl G1 p Within.Ground e GraphicArea.GL bs l (begins-in-gl m t gl G1 e shows) (both-have-gl m)
         (h .0) (h .1) (h .2)
 
     shifted : (m : Form) (e : Element) → Is m e →
-        ReadsAs (readerWith m t gl G1 (Within.SingleShift e)) left (Answer.Char e (setIn t e) p ∷ l)
+        ReadsAs (readerWith m t gl G1 (Within.SingleShift e)) left (given (Answer.Char e (setIn t e) p) ∷ l)
     shifted m e h =
         reads-character m t gl G1 p (Within.SingleShift e) e GraphicArea.GL bs l (begins-shifted m t gl G1 e) (both-have-gl m)
         (h .0) (h .1) (h .2)
 
-    in-g2 : (m : Form) → Is m G2 → ReadsAs (ground m) (functionBytes m functionOfSS2 ++ left) (Answer.Char G2 (setIn t G2) p ∷ l)
+    in-g2 : (m : Form) → Is m G2 → ReadsAs (ground m) (functionBytes m functionOfSS2 ++ left) (given (Answer.Char G2 (setIn t G2) p) ∷ l)
     unfolding means c1Function
     in-g2 m h =
-        reads-function m t gl G1 functionOfSS2 (Shifts SS2) (shifts SS2 (ground m)) left (Answer.Char G2 (setIn t G2) p ∷ l)
-        (omega arith) refl (λ f v. refl) (λ later at. refl) (shifted m G2 h)
+        reads-function m t gl G1 functionOfSS2 (Shifts SS2) (shifts SS2 (ground m)) left (given (Answer.Char G2 (setIn t G2) p) ∷ l)
+        (omega arith) refl (λ f v. refl) tt (shifted m G2 h)
 
-    in-g3 : (m : Form) → Is m G3 → ReadsAs (ground m) (functionBytes m functionOfSS3 ++ left) (Answer.Char G3 (setIn t G3) p ∷ l)
+    in-g3 : (m : Form) → Is m G3 → ReadsAs (ground m) (functionBytes m functionOfSS3 ++ left) (given (Answer.Char G3 (setIn t G3) p) ∷ l)
     unfolding means c1Function
     in-g3 m h =
-        reads-function m t gl G1 functionOfSS3 (Shifts SS3) (shifts SS3 (ground m)) left (Answer.Char G3 (setIn t G3) p ∷ l)
-        (omega arith) refl (λ f v. refl) (λ later at. refl) (shifted m G3 h)
+        reads-function m t gl G1 functionOfSS3 (Shifts SS3) (shifts SS3 (ground m)) left (given (Answer.Char G3 (setIn t G3) p) ∷ l)
+        (omega arith) refl (λ f v. refl) tt (shifted m G3 h)
 
     character-back : (m : Form) (e : Element) → Shows m e gl → Is m e →
-        ReadsAs (ground m) (characterBytes m e p ++ bs) (Answer.Char e (setIn t e) p ∷ l)
+        ReadsAs (ground m) (characterBytes m e p ++ bs) (given (Answer.Char e (setIn t e) p) ∷ l)
     character-back Seven G0 shows h = in-gl Seven G0 shows h
     character-back Seven G1 shows h = in-gl Seven G1 shows h
     character-back Seven G2 shows h = in-g2 Seven h
@@ -149,34 +168,34 @@ module _ (t : Sets) (gl : Element) (bs : List ℕ) (l : List Answer) where
     character-back Eight G3 shows h = in-g3 Eight h
 
   reads-back : (a : Answer) (m : Form) → leftOut a ≡ false → CanBeWritten t a → Ready m t gl a →
-      ReadsAs (readerWith m (setsWith t a) gl G1 Within.Ground) bs l → ReadsAs (ground m) (bytesOfAnswer m a ++ bs) (a ∷ l)
+      ReadsAs (readerWith m (setsWith t a) gl G1 Within.Ground) bs l → ReadsAs (ground m) (bytesOfAnswer m a ++ bs) (given a ∷ l)
   unfolding means
   reads-back Answer.NothingYet m stays h ready more = impossible (cc)
   reads-back (Answer.Char e x p) m stays h ready more =
-      subst (λ (x : Set). ReadsAs (ground m) (characterBytes m e p ++ bs) (Answer.Char e x p ∷ l)) (sym (h .of-element))
+      subst (λ (x : Set). ReadsAs (ground m) (characterBytes m e p ++ bs) (given (Answer.Char e x p) ∷ l)) (sym (h .of-element))
       (character-back p m e ready (h .whole, h .of-set, more))
   reads-back Answer.Space m stays h ready more =
-      reads-on (ground m) space (says Answer.Space (ground m)) bs l (reads-space m t gl G1 ready) (λ later at. refl) more
+      reads-on (ground m) space (says Answer.Space (ground m)) bs l (reads-space m t gl G1 ready) tt more
   reads-back Answer.Delete m stays h ready more =
-      reads-on (ground m) delete (says Answer.Delete (ground m)) bs l (reads-delete m t gl G1 ready) (λ later at. refl) more
+      reads-on (ground m) delete (says Answer.Delete (ground m)) bs l (reads-delete m t gl G1 ready) tt more
   reads-back (Answer.Control ControlElement.C0 f n) m stays h ready more =
-      subst (λ (f : ℕ). ReadsAs (ground m) (n ∷ bs) (Answer.Control ControlElement.C0 f n ∷ l)) (sym (h .of-element))
+      subst (λ (f : ℕ). ReadsAs (ground m) (n ∷ bs) (given (Answer.Control ControlElement.C0 f n) ∷ l)) (sym (h .of-element))
       (reads-on (ground m) n (says (Answer.Control ControlElement.C0 (t .c0) n) (ground m)) bs l (reads-c0 m t gl G1 f n h)
-      (λ later at. refl) more)
+      tt more)
   reads-back (Answer.Control ControlElement.C1 f n) m stays h ready more =
-      subst (λ (f : ℕ). ReadsAs (ground m) (functionBytes m n ++ bs) (Answer.Control ControlElement.C1 f n ∷ l)) (sym (h .of-element))
+      subst (λ (f : ℕ). ReadsAs (ground m) (functionBytes m n ++ bs) (given (Answer.Control ControlElement.C1 f n) ∷ l)) (sym (h .of-element))
       (reads-function m t gl G1 n (Function n) (says (Answer.Control ControlElement.C1 (t .c1) n) (ground m)) bs l
-      (function-low n (h .no-shift)) (h .no-shift) (λ f v. refl) (λ later at. refl) more)
+      (function-low n (h .no-shift)) (h .no-shift) (λ f v. refl) tt more)
   reads-back (Answer.DesignateControls w f) m stays h ready more =
       reads-sequence m t gl G1 (Intermediates.One (intermediateOfControls w)) f (Meaning.DesignateControls w) bs l
-      (intermediate-of-controls w) h (controls-mean w m f (final-is f h)) (λ later at. refl) more
+      (intermediate-of-controls w) h (controls-mean w m f (final-is f h)) tt more
   reads-back (Answer.Designate e x) m stays h ready more =
       reads-sequence m t gl G1 (intermediatesOf (x .count) (x .kind) e (x .last)) (x .last)
       (Meaning.Designate e (x .kind) (x .count)) bs l (designation-leads (x .count) (x .kind) e (x .last)) (h .ends)
-      (designation-means (x .count) (x .kind) e (x .last) m (final-is (x .last) (h .ends)) (h .into) (h .lasts)) (λ later at. refl) more
+      (designation-means (x .count) (x .kind) e (x .last) m (final-is (x .last) (h .ends)) (h .into) (h .lasts)) tt more
   reads-back (Answer.Shift h) m stays c ready more = impossible (cc)
   reads-back (Answer.Other s f) m stays h ready more =
-      reads-sequence m t gl G1 s f Meaning.Other bs l (h .leads) (h .ends) (h .other m) (λ later at. refl) more
+      reads-sequence m t gl G1 s f Meaning.Other bs l (h .leads) (h .ends) (h .other m) tt more
   reads-back (Answer.Refused r) m stays h ready more = absurd h
   reads-back Answer.Skipped m stays h ready more = absurd h
   reads-back (Answer.InStep n) m stays h ready more = absurd h
@@ -192,12 +211,53 @@ shown Eight gl = G0
 abbrev pub readerOf : Form → Writer → Reader
 readerOf m w = readerWith m (w .sets) (shown m (w .gl)) G1 Within.Ground
 
-one-answer : (m : Form) (w : Writer) (a : Answer) (bs : List ℕ) (l : List Answer) → w .sets .g0 .kind ≡ Of94 → leftOut a ≡ false →
-    CanBeWritten (w .sets) a → ReadsAs (readerOf m (writerAfter m w a)) bs l → ReadsAs (readerOf m w) (writtenFor m w a ++ bs) (a ∷ l)
+-- in 7-bit form no answer's bytes begin with SI
+not-shift-in : (k : Kind) (q : ℕ) → setByte k q ≡ OfSet → q ≡ si → ⊥
+unfolding setByte between
+not-shift-in k q of-set e = impossible (cc (ap (setByte k) e))
+
+character-begins : (k : Kind) (p : PositionBytes) (bs : List ℕ) → AllOfSet k p →
+    NoShiftIn (map (byteFrom GraphicArea.GL) (positionValues p) ++ bs)
+character-begins k (PositionBytes.One a) bs h = not-shift-in k a h
+character-begins k (PositionBytes.Two a b) bs h = not-shift-in k a (h .0)
+character-begins k (PositionBytes.Three a b c) bs h = not-shift-in k a (h .0)
+
+-- a locking shift, and then what it is written for
+reads-locking : (t : Sets) (gl : Element) (k : Locking) (bs : List ℕ) (l : List Entry) → (k ≡ shiftOut → NoShiftIn bs) →
+    ReadsAs (readerWith Seven t (glWith k gl) G1 Within.Ground) bs l → ReadsAs (readerWith Seven t gl G1 Within.Ground) (lockingBytes k ++ bs) l
+reads-locking t gl none bs l other more = more
+reads-locking t gl shiftIn bs l other more = reads-si t gl G1 bs l more
+reads-locking t gl shiftOut bs l other more = reads-so t gl G1 bs l (other refl) more
+
+-- SO is written before characters of G1 alone
+space-locking : (k : Kind) → beforeSpace k ≡ shiftOut → ⊥
+space-locking Of94 e = impossible (cc)
+space-locking Of96 e = impossible (cc)
+
+out-before : (a : Answer) (w : Writer) (bs : List ℕ) → CanBeWritten (w .sets) a → lockingInSeven w a ≡ shiftOut →
+    NoShiftIn (bytesOfAnswer Seven a ++ bs)
+out-before Answer.NothingYet w bs h e = impossible (cc)
+out-before (Answer.Char G0 x p) w bs h e = character-begins (setIn (w .sets) G0 .kind) p bs (h .of-set)
+out-before (Answer.Char G1 x p) w bs h e = character-begins (setIn (w .sets) G1 .kind) p bs (h .of-set)
+out-before (Answer.Char G2 x p) w bs h e = impossible (cc)
+out-before (Answer.Char G3 x p) w bs h e = impossible (cc)
+out-before Answer.Space w bs h e = absurd (space-locking (setIn (w .sets) (w .gl) .kind) e)
+out-before Answer.Delete w bs h e = absurd (space-locking (setIn (w .sets) (w .gl) .kind) e)
+out-before (Answer.Control v f n) w bs h e = impossible (cc)
+out-before (Answer.DesignateControls v f) w bs h e = impossible (cc)
+out-before (Answer.Designate g x) w bs h e = impossible (cc)
+out-before (Answer.Shift s) w bs h e = impossible (cc)
+out-before (Answer.Other s f) w bs h e = impossible (cc)
+out-before (Answer.Refused r) w bs h e = absurd h
+out-before Answer.Skipped w bs h e = absurd h
+out-before (Answer.InStep n) w bs h e = absurd h
+
+one-answer : (m : Form) (w : Writer) (a : Answer) (bs : List ℕ) (l : List Entry) → w .sets .g0 .kind ≡ Of94 → leftOut a ≡ false →
+    CanBeWritten (w .sets) a → ReadsAs (readerOf m (writerAfter m w a)) bs l → ReadsAs (readerOf m w) (writtenFor m w a ++ bs) (given a ∷ l)
 one-answer Seven w a bs l g0 stays h more =
     let k : Locking = lockingInSeven w a in
-    subst (λ (xs : List ℕ). ReadsAs (readerOf Seven w) xs (a ∷ l)) (sym (append-assoc (lockingBytes k) (bytesOfAnswer Seven a) bs))
-    (reads-locking Seven (w .sets) (w .gl) G1 k (bytesOfAnswer Seven a ++ bs) (a ∷ l)
+    subst (λ (xs : List ℕ). ReadsAs (readerOf Seven w) xs (given a ∷ l)) (sym (append-assoc (lockingBytes k) (bytesOfAnswer Seven a) bs))
+    (reads-locking (w .sets) (w .gl) k (bytesOfAnswer Seven a ++ bs) (given a ∷ l) (out-before a w bs h)
     (reads-back (w .sets) (glWith k (w .gl)) bs l a Seven stays h (ready-in-seven a w g0) more))
 one-answer Eight w a bs l g0 stays h more = reads-back (w .sets) G0 bs l a Eight stays h (ready-in-eight a (w .sets) g0) more
 
@@ -224,9 +284,67 @@ keeps-g0 (Answer.Refused r) t h g0 = g0
 keeps-g0 Answer.Skipped t h g0 = g0
 keeps-g0 (Answer.InStep n) t h g0 = g0
 
-pub sequence-reads-back : (m : Form) (l : List Answer) (w : Writer) → w .sets .g0 .kind ≡ Of94 → AllCanBeWritten (w .sets) l →
-    ReadsAs (readerOf m w) (writtenFrom m w l) l
-sequence-reads-back m [] w g0 h = record { never = λ at. refl; whole = refl; sequence = λ at. refl }
-sequence-reads-back m (a ∷ l) w g0 h =
-    one-answer m w a (writtenFrom m (writerAfter m w a) l) l g0 (h .0) (h .1)
-    (sequence-reads-back m l (writerAfter m w a) (keeps-g0 a (w .sets) (h .1) g0) (h .2))
+-- ---- an opening, which is written whole
+
+-- no opening goes on from a part of another
+not-its-own-rest : (m : Form) (k : ℕ) (rest : List ℕ) → 1 ≤ k → k < length (opening m) → NotBegins (drop k (opening m)) (opening m ++ rest)
+not-its-own-rest m k rest some less tail is =
+    let o : List ℕ = opening m in
+    let n : ℕ = length o - k in
+    let long : length (drop k o) ≡ n = length-drop k o in
+    let same : take n o ≡ drop k o =
+    sym (take-append-le n o rest (omega arith)) ∙ ap (take n) is ∙ take-at (drop k o) tail n long in
+    let overlaps : endsWith o (take n o) ≡ true =
+    tail-ends o (take n o) (record { front = take k o; is = sym (take-append-drop k o) ∙ ap (λ (l : List ℕ). take k o ++ l) (sym same) }) in
+    let none : endsWith o (take n o) ≡ false = no-overlap m n (omega arith) (omega arith) in
+    impossible (cc)
+
+-- so what was recorded before one does not tell
+module _ (r : Reader) (rest : List ℕ) where
+  abbrev from : ℕ → List Entry
+  from k = sequenceFrom (recording k r) (opening (r .form) ++ rest)
+
+  from-nothing : (n k : ℕ) → k ≤ n → k < length (opening (r .form)) → from k ≡ from 0
+  from-nothing zero k h less = ap from (omega arith)
+  from-nothing (suc n) k h less = ⊎-elim
+      (λ (none : 0 ≡ k). ap from (sym none))
+      (λ (some : 0 < k).
+      let o : List ℕ = opening (r .form) in
+      let fewer : without o k < k = less-without o k some (omega arith) in
+      not-completed (o ++ rest) r k some less (not-its-own-rest (r .form) k rest some less) ∙
+      from-nothing n (without o k) (omega arith) (omega arith))
+      (eq-or-lt-of-le (omega arith))
+
+pub written-opening : (m : Form) (w : Writer) (l : List Entry) → writtenFrom m w (withOpening l) ≡ opening m ++ writtenFrom m writerAtStart l
+written-opening Seven w l = refl
+written-opening Eight w l = refl
+
+reads-opening : (m : Form) (t : Sets) (gl : Element) (bs : List ℕ) (l : List Entry) → ReadsAs (started m) bs l →
+    ReadsAs (readerWith m t gl G1 Within.Ground) (opening m ++ bs) (withOpening l)
+reads-opening m t gl bs l more =
+    let r : Reader = readerWith m t gl G1 Within.Ground in
+    record {
+      never = λ at. refused-after m t gl G1 at bs (λ seven. refl) ∙ more .never (past at (opening m));
+      whole = ap endOfText (reader-on (opening m) bs r ∙
+          ap (λ (x : Reader). readerAfter x bs)
+          (from-in-step m Within.Ground t gl G1 0 (λ seven. refl) (nothing-after m [] 0 (noted-none m)))) ∙ more .whole;
+      sequence = λ k h.
+          from-nothing r bs k k (omega arith) (omega (arith, all-longer m)) ∙ opening-whole m t gl G1 (λ seven. refl) bs ∙
+          ap withOpening (more .sequence 0 (omega arith));
+    }
+
+pub reader-at-start : (m : Form) → readerOf m writerAtStart ≡ started m
+reader-at-start Seven = refl
+reader-at-start Eight = refl
+
+pub sequence-reads-back : (m : Form) (s : Steps) (w : Writer) → w .sets .g0 .kind ≡ Of94 → AllCanBeWritten (w .sets) s →
+    ReadsAs (readerOf m w) (writtenFrom m w (entriesOf s)) (entriesOf s)
+sequence-reads-back m ended w g0 h = record { never = λ at. refl; whole = refl; sequence = λ k least. refl }
+sequence-reads-back m (said a s) w g0 h =
+    one-answer m w a (writtenFrom m (writerAfter m w a) (entriesOf s)) (entriesOf s) g0 (h .0) (h .1)
+    (sequence-reads-back m s (writerAfter m w a) (keeps-g0 a (w .sets) (h .1) g0) (h .2))
+sequence-reads-back m (opened s) w g0 h =
+    let rest : List ℕ = writtenFrom m writerAtStart (entriesOf s) in
+    subst (λ (bytes : List ℕ). ReadsAs (readerOf m w) bytes (withOpening (entriesOf s))) (sym (written-opening m w (entriesOf s)))
+    (reads-opening m (w .sets) (shown m (w .gl)) rest (entriesOf s)
+    (subst (λ (r : Reader). ReadsAs r rest (entriesOf s)) (reader-at-start m) (sequence-reads-back m s writerAtStart refl h)))

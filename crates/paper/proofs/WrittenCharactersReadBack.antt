@@ -9,12 +9,12 @@ use borrow.Author.Tests.{lt-ltb, le-ltb}
 use Rattle.paper.specs.Words.{Form, Area, Element, Set, Sets, SetByte, OfSet, GraphicArea, PositionBytes, Within, Reader, Answer}
 use Rattle.paper.specs.Sets.{bytesOf, setIn, setByte}
 use Rattle.paper.specs.Characters.{says, waits, positionIn, byteIn, bytesSoFar, withByte, character, ofCharacter, firstInGL}
-use Rattle.paper.specs.Answering.{answerTo}
 use Rattle.paper.specs.Results.{positionValues}
-use Rattle.paper.specs.WrittenForms.{byteFrom}
+use Rattle.paper.specs.WrittenForms.{Entry, given, byteFrom}
 use Rattle.paper.proofs.MadeAndTakenApart.{hasArea}
 use Rattle.paper.proofs.WhatCanBeWritten.{AllOfSet}
 use Rattle.paper.proofs.WrittenBytes.{form-has-area, both-have-gl, areaIn, byte-of}
+use Rattle.paper.proofs.AnswersWithoutTheRecord.{answerOf}
 use Rattle.paper.proofs.ReadingOn.{ReadsAs, reads-on, readerWith, in-form, on-ground}
 
 -- ---- a whole character, or not yet
@@ -38,7 +38,7 @@ module _ (m : Form) (t : Sets) (gl gr : Element) where
   -- a byte that begins a character of an element, from an area
   abbrev pub Begins : Within → Element → GraphicArea → Type 0
   Begins w e a = (q : ℕ) → setByte (setIn t e .kind) q ≡ OfSet →
-      answerTo (here w) (byteFrom a q) ≡ character e (setIn t e) a (PositionBytes.One q) (here w)
+      answerOf (here w) (byteFrom a q) ≡ character e (setIn t e) a (PositionBytes.One q) (here w)
 
   pub begins-in-gl : (e : Element) → gl ≡ e → Begins Within.Ground e GraphicArea.GL
   unfolding byteIn
@@ -71,31 +71,31 @@ module _ (m : Form) (t : Sets) (gl gr : Element) where
   -- a later byte
   goes-on : (e : Element) (a : GraphicArea) (p : PositionBytes) (q : ℕ) → hasArea m (areaIn a) ≡ true →
       setByte (setIn t e .kind) q ≡ OfSet → let w = Within.Character e a p in
-      answerTo (here w) (byteFrom a q) ≡ character e (setIn t e) a (withByte p q) (here w)
+      answerOf (here w) (byteFrom a q) ≡ character e (setIn t e) a (withByte p q) (here w)
   goes-on e a p q has of-set =
       let w : Within = Within.Character e a p in
       in-form m t gl gr w (byteFrom a q) (form-has-area m (byteFrom a q) (areaIn a) (byte-of a (setIn t e .kind) q of-set .area) has) ∙
       joins e a q (withByte p) (here w) of-set
 
   -- the bytes of one character, once over the set and the byte count
-  pub reads-character : (p : PositionBytes) (w : Within) (e : Element) (a : GraphicArea) (bs : List ℕ) (l : List Answer) →
+  pub reads-character : (p : PositionBytes) (w : Within) (e : Element) (a : GraphicArea) (bs : List ℕ) (l : List Entry) →
       Begins w e a → hasArea m (areaIn a) ≡ true → bytesSoFar p ≡ bytesOf (setIn t e .count) → AllOfSet (setIn t e .kind) p →
       ReadsAs (here Within.Ground) bs l →
-      ReadsAs (here w) (map (byteFrom a) (positionValues p) ++ bs) (Answer.Char e (setIn t e) p ∷ l)
+      ReadsAs (here w) (map (byteFrom a) (positionValues p) ++ bs) (given (Answer.Char e (setIn t e) p) ∷ l)
   reads-character (PositionBytes.One c) w e a bs l begins has n of-set more =
       let x : Set = setIn t e in
       reads-on (here w) (byteFrom a c) (says (Answer.Char e x (PositionBytes.One c)) (here w)) bs l
       (begins c of-set ∙ whole-character e x a (PositionBytes.One c) (here w) n)
-      (λ later at. refl) more
+      tt more
   reads-character (PositionBytes.Two c d) w e a bs l begins has n of-set more =
       let x : Set = setIn t e in
       let one : PositionBytes = PositionBytes.One c in
       let v : Within = Within.Character e a one in
       let two : PositionBytes = PositionBytes.Two c d in
-      reads-on (here w) (byteFrom a c) (waits v (here w)) (byteFrom a d ∷ bs) (Answer.Char e x two ∷ l)
-      (begins c (of-set .0) ∙ not-yet e x a one (here w) (omega arith)) (λ later at. refl)
+      reads-on (here w) (byteFrom a c) (waits v (here w)) (byteFrom a d ∷ bs) (given (Answer.Char e x two) ∷ l)
+      (begins c (of-set .0) ∙ not-yet e x a one (here w) (omega arith)) tt
       (reads-on (here v) (byteFrom a d) (says (Answer.Char e x two) (here v)) bs l
-      (goes-on e a one d has (of-set .1) ∙ whole-character e x a two (here v) n) (λ later at. refl) more)
+      (goes-on e a one d has (of-set .1) ∙ whole-character e x a two (here v) n) tt more)
   reads-character (PositionBytes.Three c d f) w e a bs l begins has n of-set more =
       let x : Set = setIn t e in
       let one : PositionBytes = PositionBytes.One c in
@@ -103,9 +103,9 @@ module _ (m : Form) (t : Sets) (gl gr : Element) where
       let three : PositionBytes = PositionBytes.Three c d f in
       let u : Within = Within.Character e a one in
       let v : Within = Within.Character e a two in
-      reads-on (here w) (byteFrom a c) (waits u (here w)) (byteFrom a d ∷ byteFrom a f ∷ bs) (Answer.Char e x three ∷ l)
-      (begins c (of-set .0) ∙ not-yet e x a one (here w) (omega arith)) (λ later at. refl)
-      (reads-on (here u) (byteFrom a d) (waits v (here u)) (byteFrom a f ∷ bs) (Answer.Char e x three ∷ l)
-      (goes-on e a one d has (of-set .1) ∙ not-yet e x a two (here u) (omega arith)) (λ later at. refl)
+      reads-on (here w) (byteFrom a c) (waits u (here w)) (byteFrom a d ∷ byteFrom a f ∷ bs) (given (Answer.Char e x three) ∷ l)
+      (begins c (of-set .0) ∙ not-yet e x a one (here w) (omega arith)) tt
+      (reads-on (here u) (byteFrom a d) (waits v (here u)) (byteFrom a f ∷ bs) (given (Answer.Char e x three) ∷ l)
+      (goes-on e a one d has (of-set .1) ∙ not-yet e x a two (here u) (omega arith)) tt
       (reads-on (here v) (byteFrom a f) (says (Answer.Char e x three) (here v)) bs l
-      (goes-on e a two f has (of-set .2) ∙ whole-character e x a three (here v) n) (λ later at. refl) more))
+      (goes-on e a two f has (of-set .2) ∙ whole-character e x a three (here v) n) tt more))

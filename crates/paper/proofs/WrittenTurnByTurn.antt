@@ -12,40 +12,33 @@ use Rattle.paper.specs.Words.{FirstRefusal, Never}
 use Rattle.paper.specs.CodeTable.{areaOf, formHas, bit8, so, si, esc}
 use Rattle.paper.specs.Sets.{bytesOf, setIn}
 use Rattle.paper.specs.Sequences.{sequenceByte, c1Function, meaningOf}
+use Rattle.paper.specs.Marks.{recording}
 use Rattle.paper.specs.Characters.{c0Byte, positionIn, byteIn, bytesSoFar, withByte, character, ofCharacter, firstInGL}
 use Rattle.paper.specs.Answering.{means, intermediate, sequenceAt, groundAt, answerWithin, answerInStep, answerStanding, answerTo}
-use Rattle.paper.specs.Texts.{answersFrom}
 use Rattle.paper.specs.Surveying.{refusalOr}
-use Rattle.paper.specs.WrittenForms.{leftOut, sequenceIn, Writer, writtenFor, setsWith, writerAfter, writtenFrom}
+use Rattle.paper.specs.WrittenForms.{Entry, withAnswer, Writer, writtenFor, setsWith, writerAfter, writtenFrom}
 use Rattle.paper.proofs.Choices.{impossible, gives-has}
 use Rattle.paper.proofs.LawfulAnswers.{IsInStep}
 
 -- ---- a turn
 
 -- an answer joins the sequence or is left out; either way its bytes come first
-turn-of : (a : Answer) (to : Form) (w : Writer) (l : List Answer) →
-    writtenFrom to w (leftOut a gives l or a ∷ l) ≡ writtenFor to w a ++ writtenFrom to (writerAfter to w a) l
-turn-of Answer.NothingYet Seven w l = refl
-turn-of Answer.NothingYet Eight w l = refl
-turn-of (Answer.Char e x p) to w l = refl
-turn-of Answer.Space to w l = refl
-turn-of Answer.Delete to w l = refl
-turn-of (Answer.Control v f n) to w l = refl
-turn-of (Answer.DesignateControls v f) to w l = refl
-turn-of (Answer.Designate e x) to w l = refl
-turn-of (Answer.Shift h) Seven w l = refl
-turn-of (Answer.Shift h) Eight w l = refl
-turn-of (Answer.Other s f) to w l = refl
-turn-of (Answer.Refused r) to w l = refl
-turn-of Answer.Skipped to w l = refl
-turn-of (Answer.InStep n) to w l = refl
-
--- one turn, whatever its answer is
-pub one-turn : (to : Form) (w : Writer) (at : ℕ) (r : Reader) (b : ℕ) (bs : List ℕ) →
-    let a = answerTo r b .answer in
-    writtenFrom to w (sequenceIn (answersFrom at r (b ∷ bs))) ≡
-    writtenFor to w a ++ writtenFrom to (writerAfter to w a) (sequenceIn (answersFrom (suc at) (answerTo r b .reader) bs))
-one-turn to w at r b bs = turn-of (answerTo r b .answer) to w (sequenceIn (answersFrom (suc at) (answerTo r b .reader) bs))
+pub one-turn : (a : Answer) (to : Form) (w : Writer) (l : List Entry) →
+    writtenFrom to w (withAnswer a l) ≡ writtenFor to w a ++ writtenFrom to (writerAfter to w a) l
+one-turn Answer.NothingYet Seven w l = refl
+one-turn Answer.NothingYet Eight w l = refl
+one-turn (Answer.Char e x p) to w l = refl
+one-turn Answer.Space to w l = refl
+one-turn Answer.Delete to w l = refl
+one-turn (Answer.Control v f n) to w l = refl
+one-turn (Answer.DesignateControls v f) to w l = refl
+one-turn (Answer.Designate e x) to w l = refl
+one-turn (Answer.Shift h) Seven w l = refl
+one-turn (Answer.Shift h) Eight w l = refl
+one-turn (Answer.Other s f) to w l = refl
+one-turn (Answer.Refused r) to w l = refl
+one-turn Answer.Skipped to w l = refl
+one-turn (Answer.InStep n) to w l = refl
 
 -- where this answer and those after it refuse nothing, those after it do not
 pub later-refuse-nothing : (a : Answer) (at : ℕ) (later : FirstRefusal) → refusalOr later at a ≡ Never → later ≡ Never
@@ -132,6 +125,7 @@ module _ (r : Reader) (b : ℕ) where
   told-standing (Standing.InStep w) h = in-step-told w
   told-standing (Standing.Lost k n) h = absurd h
 
-  pub sets-by-the-answer : IsInStep (r .standing) → answerTo r b .reader .sets ≡ setsWith (r .sets) (answerTo r b .answer)
-  unfolding answerTo
-  sets-by-the-answer h = told-standing (r .standing) h
+pub sets-by-the-answer : (r : Reader) (b : ℕ) → IsInStep (r .standing) →
+    answerTo r b .reader .sets ≡ setsWith (r .sets) (answerTo r b .answer)
+unfolding answerTo
+sets-by-the-answer r b h = told-standing (recording 0 r) b (r .standing) h

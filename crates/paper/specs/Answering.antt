@@ -10,12 +10,13 @@ use Rattle.paper.specs.Sets.{setIn}
 use Rattle.paper.specs.Starting.{started, opening}
 use Rattle.paper.specs.Sequences.{sequenceByte, c1Function, meaningOf, sequenceAnswer, setsAfter}
 use Rattle.paper.specs.Searching.{matchedWith, oneMore}
+use Rattle.paper.specs.Marks.{recording, recordAfter}
 use Rattle.paper.specs.Characters.{standingAt, waits, lostWith, refuses, shifted, c0Byte, glByte, grByte}
 use Rattle.paper.specs.Characters.{singleByte, laterByte}
 
 -- a reader on the ground that has these sets
 abbrev pub withSets : Sets → Reader → Reader
-withSets t r = record { form = r .form; sets = t; gl = r .gl; gr = r .gr; standing = Standing.InStep Within.Ground }
+withSets t r = record { form = r .form; sets = t; gl = r .gl; gr = r .gr; gone = r .gone; standing = Standing.InStep Within.Ground }
 
 -- the reader after a sequence or a C1 function: lost where there is no meaning, shifted, or on the ground with its sets
 abbrev pub afterMeaning : Meaning → ℕ → Reader → Reader
@@ -76,9 +77,12 @@ abbrev pub answerStanding : Standing → ℕ → Reader → Answered
 answerStanding (Standing.InStep w) b r = answerInStep w b r
 answerStanding (Standing.Lost k n) b r = answerLost k n b r
 
--- the answer, and the reader for the next byte
+-- The answer, and the reader for the next byte. The record of the opening moves here and nowhere else: the cases above are given a
+-- reader that has recorded nothing, and what is recorded after the byte is put in when they have answered
 unfoldable pub answerTo : Reader → ℕ → Answered
-answerTo r b = answerStanding (r .standing) b r
+answerTo r b =
+    let a = answerStanding (r .standing) b (recording 0 r) in
+    record { answer = a .answer; reader = recording (recordAfter r b (a .reader .standing)) (a .reader) }
 
 -- at the end of a text the answer is whole, inside or lost
 abbrev pub endWithin : Within → EndWord

@@ -12,7 +12,7 @@ use Rattle.paper.specs.Searching.{matchedWith, oneMore}
 
 -- a reader that stands elsewhere
 abbrev pub standingAt : Standing → Reader → Reader
-standingAt s r = record { form = r .form; sets = r .sets; gl = r .gl; gr = r .gr; standing = s }
+standingAt s r = record { form = r .form; sets = r .sets; gl = r .gl; gr = r .gr; gone = r .gone; standing = s }
 
 -- a complete answer leaves the reader on the ground
 abbrev pub says : Answer → Reader → Answered
@@ -47,6 +47,7 @@ shifted h r = record {
   sets = r .sets;
   gl = glAfter (r .gl) h;
   gr = grAfter (r .gr) h;
+  gone = r .gone;
   standing = Standing.InStep (afterShift h);
 }
 

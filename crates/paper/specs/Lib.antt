@@ -5,11 +5,12 @@ pub mod Sets
 pub mod Starting
 pub mod Sequences
 pub mod Searching
+pub mod Marks
 pub mod Characters
 pub mod Answering
-pub mod Texts
 pub mod Refusals
 pub mod Results
+pub mod Texts
 pub mod LentBuffers
 pub mod Surveying
 pub mod WrittenForms

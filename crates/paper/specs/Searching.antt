@@ -20,6 +20,10 @@ sameOn before (b ∷ bs) (c ∷ cs) = sameOn (before gives eqb b c or false) bs 
 abbrev pub same : List ℕ → List ℕ → Bool
 same bs cs = sameOn true bs cs
 
+-- these bytes begin with those
+abbrev pub beginsWith : List ℕ → List ℕ → Bool
+beginsWith bs start = same (take (length start) bs) start
+
 -- these bytes end with those
 abbrev pub endsWith : List ℕ → List ℕ → Bool
 endsWith bs end = same (drop (length bs - length end) bs) end

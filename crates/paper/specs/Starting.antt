@@ -20,9 +20,9 @@ greek = oneByte96 0x46
 abbrev pub startingSets : Sets
 startingSets = record { c0 = 0x40; c1 = 0x43; g0 = latin; g1 = greek; g2 = oneByte96 0x41; g3 = oneByte96 0x4C }
 
--- GL shows G0, GR shows G1
+-- GL shows G0, GR shows G1; nothing of an opening has gone by
 abbrev pub started : Form → Reader
-started m = record { form = m; sets = startingSets; gl = G0; gr = G1; standing = Standing.InStep Within.Ground }
+started m = record { form = m; sets = startingSets; gl = G0; gr = G1; gone = 0; standing = Standing.InStep Within.Ground }
 
 -- both forms begin with these 18 bytes
 abbrev pub openingStart : List ℕ
@@ -30,7 +30,11 @@ openingStart =
     esc ∷ 0x21 ∷ 0x40 ∷ esc ∷ 0x22 ∷ 0x43 ∷ esc ∷ 0x28 ∷ 0x42 ∷
     esc ∷ 0x2D ∷ 0x46 ∷ esc ∷ 0x2E ∷ 0x41 ∷ esc ∷ 0x2F ∷ 0x4C ∷ []
 
+-- and then each has its own
+abbrev pub openingEnd : Form → List ℕ
+openingEnd Eight = si ∷ esc ∷ 0x7E ∷ []
+openingEnd Seven = so ∷ si ∷ []
+
 -- 21 bytes in 8-bit form, 20 in 7-bit form
 abbrev pub opening : Form → List ℕ
-opening Eight = openingStart ++ (si ∷ esc ∷ 0x7E ∷ [])
-opening Seven = openingStart ++ (so ∷ si ∷ [])
+opening m = openingStart ++ openingEnd m

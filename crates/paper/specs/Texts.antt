@@ -2,11 +2,13 @@
 use Prim.Native.Nat.{ℕ, suc, _+_}
 use mathlib.Core.Path.{_≡_}
 use mathlib.Core.List.{List, [], _∷_, _++_}
+use lib.Dec.{eqb}
 use lib.ListN.{length}
 use Rattle.paper.specs.Choice.{_gives_or_}
 use Rattle.paper.specs.Words.{Form, Reader, Answer, EndWord}
 use Rattle.paper.specs.Starting.{started, opening}
 use Rattle.paper.specs.Searching.{endsWith, skippedBytes}
+use Rattle.paper.specs.Results.{wordOf, instepWord}
 use Rattle.paper.specs.Answering.{answerTo, endOfText}
 
 -- the reader after a text
@@ -38,6 +40,17 @@ answerAfter m text b = answerTo (readerAfter (started m) text) b .answer
 abbrev pub later : ℕ → List Placed → List Placed
 later n [] = []
 later n (a ∷ l) = record { offset = n + a .offset; answer = a .answer } ∷ later n l
+
+-- the bytes since the start, or since the latest instep
+abbrev pub sinceWith : Answer → List ℕ → ℕ → List ℕ
+sinceWith a since b = eqb (wordOf a) instepWord gives [] or since ++ (b ∷ [])
+
+abbrev pub sinceFrom : Reader → List ℕ → List ℕ → List ℕ
+sinceFrom r since [] = since
+sinceFrom r since (b ∷ bs) = sinceFrom (answerTo r b .reader) (sinceWith (answerTo r b .answer) since b) bs
+
+abbrev pub sinceInStep : Form → List ℕ → List ℕ
+sinceInStep m text = sinceFrom (started m) [] text
 
 -- a complete opening stands in these bytes, unbroken
 pub record OpeningIn (m : Form) (bs : List ℕ) : Type 0 where

@@ -5,25 +5,37 @@ use mathlib.Core.Bool.{Bool, false}
 use mathlib.Core.List.{List, [], _∷_, _++_, map}
 use Rattle.paper.specs.Choice.{_gives_or_, oneOf}
 use Rattle.paper.specs.Words.{Form, Seven, Eight, ControlElement, Element, G0, G1, G2, G3, Kind, Of94, Of96, Count}
-use Rattle.paper.specs.Words.{Set, Sets, Intermediates, GraphicArea, PositionBytes, Answer}
+use Rattle.paper.specs.Words.{Set, Sets, Intermediates, GraphicArea, PositionBytes, Reader, Answer}
 use Rattle.paper.specs.CodeTable.{bit8, so, si, esc}
 use Rattle.paper.specs.Sets.{space, delete, setIn, designated, designatedControls}
-use Rattle.paper.specs.Starting.{startingSets}
+use Rattle.paper.specs.Starting.{startingSets, started, openingEnd}
+use Rattle.paper.specs.Marks.{isMark}
+use Rattle.paper.specs.Answering.{answerTo}
 use Rattle.paper.specs.Sequences.{functionOfSS2, functionOfSS3, finalOfFunction, intermediateOf, several, isShort}
 use Rattle.paper.specs.Sequences.{intermediateOfControls}
-use Rattle.paper.specs.Texts.{Placed, answersOf}
 use Rattle.paper.specs.Results.{controlSize, positionValues, sequenceValues, wordOf, nothingYetWord, shiftWord}
 
--- The sequence of a text is its answers without shifts and nothing-yet.
+-- The sequence of a text is its answers without shifts and nothing-yet, and its marks, each in its place.
+pub data Entry : Type 0 where
+  given : Answer → Entry
+  mark : Entry
+
 abbrev pub leftOut : Answer → Bool
 leftOut a = oneOf (nothingYetWord ∷ shiftWord ∷ []) (wordOf a)
 
-abbrev pub sequenceIn : List Placed → List Answer
-sequenceIn [] = []
-sequenceIn (a ∷ l) = leftOut (a .answer) gives sequenceIn l or a .answer ∷ sequenceIn l
+abbrev pub withAnswer : Answer → List Entry → List Entry
+withAnswer a l = leftOut a gives l or given a ∷ l
 
-abbrev pub sequenceOf : Form → List ℕ → List Answer
-sequenceOf m text = sequenceIn (answersOf m text)
+abbrev pub withMark : Bool → List Entry → List Entry
+withMark isOne l = isOne gives mark ∷ l or l
+
+abbrev pub sequenceFrom : Reader → List ℕ → List Entry
+sequenceFrom r [] = []
+sequenceFrom r (b ∷ bs) =
+    withAnswer (answerTo r b .answer) (withMark (isMark r b) (sequenceFrom (answerTo r b .reader) bs))
+
+abbrev pub sequenceOf : Form → List ℕ → List Entry
+sequenceOf m text = sequenceFrom (started m) text
 
 -- ---- what is written alike in both forms
 
@@ -181,10 +193,19 @@ setsWith t (Answer.InStep n) = t
 abbrev pub writerAfter : Form → Writer → Answer → Writer
 writerAfter m w a = record { sets = setsWith (w .sets) a; gl = glWith (locking m w a) (w .gl) }
 
-abbrev pub writtenFrom : Form → Writer → List Answer → List ℕ
+-- At a mark the 8-bit writer writes 0F 1B 7E and the 7-bit writer 0E 0F, after the designations already written, and GL then shows G0.
+abbrev pub entryBytes : Form → Writer → Entry → List ℕ
+entryBytes m w (given a) = writtenFor m w a
+entryBytes m w mark = openingEnd m
+
+abbrev pub writerPast : Form → Writer → Entry → Writer
+writerPast m w (given a) = writerAfter m w a
+writerPast m w mark = record { sets = w .sets; gl = G0 }
+
+abbrev pub writtenFrom : Form → Writer → List Entry → List ℕ
 writtenFrom m w [] = []
-writtenFrom m w (a ∷ l) = writtenFor m w a ++ writtenFrom m (writerAfter m w a) l
+writtenFrom m w (e ∷ l) = entryBytes m w e ++ writtenFrom m (writerPast m w e) l
 
 -- the written form of a sequence
-abbrev pub written : Form → List Answer → List ℕ
+abbrev pub written : Form → List Entry → List ℕ
 written m sequence = writtenFrom m writerAtStart sequence

@@ -159,11 +159,13 @@ pub enum Standing {
     Lost { matched: u8, skipped: u16 },
 }
 
+// While it is in step a reader records how much of the opening of its form has just gone by, as a number of bytes.
 pub struct Reader {
     pub form: Form,
     pub sets: Sets,
     pub gl: Element,
     pub gr: Element,
+    pub gone: u8,
     pub standing: Standing,
 }
 

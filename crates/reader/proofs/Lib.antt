@@ -1,1 +1,2 @@
 pub mod BytesOfAreas
+pub mod RecordsAfterAnswers

@@ -11,7 +11,7 @@ use Rattle.paper.specs.Characters.{standingAt}
 abbrev pub shows : Shift → Element → Element → Reader → Answered
 shows h gl gr r = record {
   answer = Answer.Shift h;
-  reader = record { form = r .form; sets = r .sets; gl = gl; gr = gr; standing = Standing.InStep Within.Ground };
+  reader = record { form = r .form; sets = r .sets; gl = gl; gr = gr; gone = r .gone; standing = Standing.InStep Within.Ground };
 }
 
 abbrev pub takesOne : Shift → Element → Reader → Answered

@@ -53,11 +53,13 @@ pub(crate) fn show(shift: Shift, gl: Element, gr: Element, reader: Reader) -> An
 {
     let form = reader.form;
     let sets = reader.sets;
+    let gone = reader.gone;
     let next = Reader {
         form: form,
         sets: sets,
         gl: gl,
         gr: gr,
+        gone: gone,
         standing: Standing::InStep(Within::Ground),
     };
     Answered {
@@ -84,11 +86,13 @@ pub(crate) fn with_sets(sets: Sets, reader: Reader) -> Reader
     let form = reader.form;
     let gl = reader.gl;
     let gr = reader.gr;
+    let gone = reader.gone;
     Reader {
         form: form,
         sets: sets,
         gl: gl,
         gr: gr,
+        gone: gone,
         standing: Standing::InStep(Within::Ground),
     }
 }

@@ -8,25 +8,75 @@ use codetable::LAST_OF_C0;
 use codetable::LAST_OF_C1;
 use codetable::LAST_OF_GL;
 use given::refuse;
+use openings::matched_with;
+use openings::opening_length;
 use paper::Answered;
+use paper::Form;
 use paper::Reader;
 use paper::Refusal;
 use paper::Standing;
 use paper::Within;
 pub use standing::end_word;
+use standing::recording;
 pub use standing::start;
 ghost use mathlib.Core.Path.{_≡_};
 ghost use Rattle.paper.specs.Answering.{groundAt, answerWithin, answerInStep, answerTo};
 ghost use Rattle.paper.specs.CodeTable.{areaOf};
+ghost use Rattle.paper.specs.Searching.{matchedWith};
+ghost use Rattle.paper.specs.Marks.{unlessComplete};
+ghost use Rattle.reader.specs.Recording.{withRecord, recordedIn};
 
 // The answer to one byte, and the reader for the next.
 pub fn read(reader: Reader, byte: u8) -> Answered
     ensures { λ r. ⌜ r ≡ answerTo reader byte ⌝ }
 {
+    let form = reader.form;
+    let gone = reader.gone;
+    let standing = reader.standing;
+    let plain = recording(0, reader);
+    match standing {
+        Standing::InStep(within) => {
+            recorded(
+                gone_with(form, gone, byte),
+                answer_in_step(within, byte, plain),
+            )
+        }
+        Standing::Lost { matched, skipped } => {
+            let answered = search::answer_lost(matched, skipped, byte, plain);
+            with_record(0, answered)
+        }
+    }
+}
+
+// How much of the opening has gone by with a byte; nothing after a mark.
+fn gone_with(form: Form, gone: u8, byte: u8) -> u8
+    ensures { λ r. ⌜ r ≡ unlessComplete form (matchedWith form gone byte) ⌝ }
+{
+    let now = matched_with(form, gone, byte);
+    if now == opening_length(form) { 0 } else { now }
+}
+
+fn with_record(gone: u8, answered: Answered) -> Answered
+    ensures { λ r. ⌜ r ≡ withRecord gone answered ⌝ }
+{
+    let answer = answered.answer;
+    let reader = answered.reader;
+    let next = recording(gone, reader);
+    Answered {
+        answer: answer,
+        reader: next,
+    }
+}
+
+// What a reader in step has recorded after an answer: where it is lost then, nothing.
+fn recorded(gone: u8, answered: Answered) -> Answered
+    ensures { λ r. ⌜ r ≡ recordedIn gone answered ⌝ }
+{
+    let reader = answered.reader;
     let standing = reader.standing;
     match standing {
-        Standing::InStep(within) => answer_in_step(within, byte, reader),
-        Standing::Lost { matched, skipped } => search::answer_lost(matched, skipped, byte, reader),
+        Standing::InStep(_) => with_record(gone, answered),
+        Standing::Lost { .. } => with_record(0, answered),
     }
 }
 

@@ -1,3 +1,1 @@
-pub mod MatchGoesOn
-pub mod OpeningBytes
 pub mod SearchOverAText

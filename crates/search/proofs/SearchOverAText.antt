@@ -12,18 +12,17 @@ use Rattle.paper.specs.Choice.{_gives_or_}
 use Rattle.paper.specs.Starting.{opening}
 use Rattle.paper.specs.Searching.{matchedWith}
 use Rattle.paper.specs.declared.Form.{Form}
-use Rattle.search.specs.NextMatch.{begun}
 use Rattle.search.specs.NextOpening.{openingIn, openingAfter}
 use Rattle.search.specs.declared.Opening.{Opening}
-use Rattle.search.proofs.MatchGoesOn.{first-match}
 
 -- it begins with the refused byte
-pub search-begins : (m : Form) (text : List ℕ) (place k : ℕ) → place < length text → k ≡ begun (getD text place 0) →
+pub search-begins : (m : Form) (text : List ℕ) (place k : ℕ) → place < length text →
+    k ≡ matchedWith m 0 (getD text place 0) →
     openingAfter m text place ≡ openingIn m k (place + 1) (drop (place + 1) text)
 unfolding openingAfter
 search-begins m text place k inside is =
     rw (lt-leb (length text) place inside)
-    (ap (λ (n : ℕ). openingIn m n (place + 1) (drop (place + 1) text)) (sym (is ∙ first-match m (getD text place 0))))
+    (ap (λ (n : ℕ). openingIn m n (place + 1) (drop (place + 1) text)) (sym is))
 
 module _ (m : Form) (text : List ℕ) (here k n : ℕ) (inside : here < length text) (is : n ≡ matchedWith m k (getD text here 0)) where
   by-byte : openingIn m k here (drop here text) ≡

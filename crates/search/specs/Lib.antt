@@ -1,2 +1,1 @@
-pub mod NextMatch
 pub mod NextOpening

@@ -7,6 +7,7 @@ use paper::Standing;
 use paper::Within;
 ghost use mathlib.Core.Path.{_≡_};
 ghost use Rattle.paper.specs.Starting.{started};
+ghost use Rattle.paper.specs.Marks.{recording};
 ghost use Rattle.paper.specs.Characters.{standingAt};
 ghost use Rattle.paper.specs.Answering.{endWithin, endOfText};
 
@@ -20,6 +21,7 @@ pub fn start(form: Form) -> Reader
         sets: sets,
         gl: Element::G0,
         gr: Element::G1,
+        gone: 0,
         standing: Standing::InStep(Within::Ground),
     }
 }
@@ -32,12 +34,33 @@ pub fn standing_at(standing: Standing, reader: Reader) -> Reader
     let sets = reader.sets;
     let gl = reader.gl;
     let gr = reader.gr;
+    let gone = reader.gone;
     Reader {
         form: form,
         sets: sets,
         gl: gl,
         gr: gr,
+        gone: gone,
         standing: standing,
+    }
+}
+
+// The reader that has recorded so much of the opening.
+pub fn recording(gone: u8, reader: Reader) -> Reader
+    ensures { λ r. ⌜ r ≡ recording gone reader ⌝ }
+{
+    let form = reader.form;
+    let sets = reader.sets;
+    let left = reader.gl;
+    let right = reader.gr;
+    let stands = reader.standing;
+    Reader {
+        form: form,
+        sets: sets,
+        gl: left,
+        gr: right,
+        gone: gone,
+        standing: stands,
     }
 }
 

@@ -1,4 +1,4 @@
--- The loop keeps `Passes` on each of its three ways: over a run, over a letter, and over any other item.
+-- The loop keeps `Passes` on each of its four ways: over a run, over a letter, over any other item, and over an opening.
 use Prim.Native.Nat.{ℕ, _+_, _-_, _%_, _<_}
 use mathlib.Core.Path.{_≡_, refl, sym, ap, _∙_, subst}
 use mathlib.Core.Bool.{true}
@@ -7,19 +7,20 @@ use native.Mathlib.Omega.{arith}
 use borrow.Author.Needs.{needs}
 use lib.ListN.{length, getD}
 use Rattle.paper.specs.CodeTable.{bit8}
-use Rattle.paper.specs.Results.{elementNumber}
+use Rattle.paper.specs.Results.{elementNumber, refusedWord}
 use Rattle.paper.specs.declared.Element.{Element}
 use Rattle.paper.specs.declared.Refusal.{Refusal}
 use Rattle.paper.specs.declared.FirstRefusal.the-variants.{First}
 use Rattle.items.specs.Pieces.{bytesIn}
-use Rattle.items.specs.States.{elementOf, changed}
+use Rattle.items.specs.States.{elementOf, changed, startingCells}
 use Rattle.items.specs.Items.{itemOf, itemAt}
 use Rattle.items.specs.Letters.{isLetter}
 use Rattle.converter.specs.Passes.{atTheEnd}
 use Rattle.converter.specs.Passing.{Passes}
 use Rattle.converter.specs.Writing.{wroteOf, characterIn}
 use Rattle.converter.specs.Runs.{Begins, inOneByte}
-use Rattle.converter.proofs.PassByItems.{passes-start, within-thrice, item-refused, item-onward, item-writable}
+use Rattle.converter.proofs.PassByItems.{passes-start, within-thrice, item-refused, item-onward, item-writable, opening-onward}
+use Rattle.converter.proofs.PassByItems.{opening-goes-on, put-whole}
 use Rattle.converter.proofs.PassByPieces.{piece-is-small, piece-goes-on, letter-is-small, letter-goes-on}
 use Rattle.converter.proofs.PassEnds.{refused-promised, end-promised}
 use Rattle.converter.proofs.pass.Statement.{statement}
@@ -176,18 +177,21 @@ item-is : (c : tie.After-read-item Inv-loop μ-loop) →
 item-is c = sym (c .read-item .ensures .0)
 
 -- one that stops
+abbrev stopped : tie.After-refusal-of Inv-loop μ-loop → tie.After-read-item Inv-loop μ-loop
+stopped c = c .before .before .before .before .before .before .before
+
 returns : tie.Need-returns Inv-loop μ-loop
 returns c =
-    let r = c .before .before .before .before .before in
+    let r = stopped c in
     let a = other r in
     let s = called a .args in
     let l = looped a .loop in
     refused-promised (s .form) (s .to) (s .text .now) (s .buffer .now) (l .buffer) _ _
-    (item-refused (l .inv) (inside a) (itemOf (r .read-item .result)) (item-is r) (c .before .if3 .taken) ∙
+    (item-refused (l .inv) (inside a) (itemOf (r .read-item .result)) (item-is r) (c .before .if4 .taken) ∙
     ap (λ (n : Refusal). First n (r .read-item .result .place)) (sym (c .refusal-of .ensures)))
 
 -- one that is written
-abbrev read : tie.Else3 Inv-loop μ-loop → tie.After-read-item Inv-loop μ-loop
+abbrev read : tie.Then3 Inv-loop μ-loop → tie.After-read-item Inv-loop μ-loop
 read c = c .before .before .before .before
 
 write-requires : tie.Need-write-requires Inv-loop μ-loop
@@ -195,7 +199,7 @@ write-requires c κs =
     let e = c .before in
     let r = read e in
     let a = other r in
-    item-writable (looped a .loop .inv) (inside a) (itemOf (r .read-item .result)) (item-is r) (e .if3 .left)
+    item-writable (looped a .loop .inv) (inside a) (itemOf (r .read-item .result)) (item-is r) (e .if3 .taken)
     (r .read-item .result .piece) refl (r .read-item .ensures .1)
 
 put-if-room-requires-2 : tie.Need-put-if-room-requires-2 Inv-loop μ-loop
@@ -206,7 +210,7 @@ put-if-room-requires-2 c κs =
     let a = other r in
     let l = looped a .loop in (
       omega (arith, within-thrice (l .inv), called a .pre),
-      piece-is-small (l .inv) (inside a) (itemOf (r .read-item .result)) (item-is r) (e .if3 .left) (w .write .result) (w .write .ensures),
+      piece-is-small (l .inv) (inside a) (itemOf (r .read-item .result)) (item-is r) (e .if3 .taken) (w .write .result) (w .write .ensures),
     )
 
 abbrev put : tie.After-struct-known3 Inv-loop μ-loop → tie.After-write Inv-loop μ-loop
@@ -226,7 +230,7 @@ at-item c =
     let a = other r in
     let l = looped a .loop in
     let stored = c .before .before .before .put-if-room2 in
-    piece-goes-on (l .inv) (inside a) (itemOf (r .read-item .result)) (item-is r) (e .if3 .left) (w .write .result) (w .write .ensures) _
+    piece-goes-on (l .inv) (inside a) (itemOf (r .read-item .result)) (item-is r) (e .if3 .taken) (w .write .result) (w .write .ensures) _
     (stored .kept .0) (λ h. stored .ensures (omega (arith, h, l .inv .passing .as-long)))
 
 add-at-2 : tie.Need-add-at-2 Inv-loop μ-loop
@@ -239,7 +243,7 @@ loop-less-3 c =
     let a = other r in
     omega (
       arith,
-      item-onward (looped a .loop .inv) (inside a) (itemOf (r .read-item .result)) (item-is r) (e .if3 .left),
+      item-onward (looped a .loop .inv) (inside a) (itemOf (r .read-item .result)) (item-is r) (e .if3 .taken),
       inside a,
     )
 
@@ -251,6 +255,59 @@ loop-again-3 c =
     let l = looped (other r) .loop in
     subst (λ (x : List ℕ). Comes (other r) x (w .shown .0) (l .at + w .piece .count) (r .read-item .result .place)
     (k .before .before .before .put-if-room2 .last .0)) (sym (c .change .ensures)) (at-item k)
+
+-- ---- an opening
+
+abbrev opened : tie.After-opening-length Inv-loop μ-loop → tie.After-put-opening Inv-loop μ-loop
+opened c = c .before .before .before
+
+abbrev none : tie.After-put-opening Inv-loop μ-loop → tie.Else4 Inv-loop μ-loop
+none c = c .before .before
+
+abbrev begun-by : tie.After-put-opening Inv-loop μ-loop → tie.After-read-item Inv-loop μ-loop
+begun-by c = none c .before .before .before .before .before .before
+
+neither : (c : tie.After-put-opening Inv-loop μ-loop) →
+    let word = begun-by c .read-item .result .effect .word .0 in (word < refusedWord → ⊥) × (word ≡ refusedWord → ⊥)
+neither c = (λ h. absurd (omega (arith, h, none c .before .before .if3 .left)), none c .if4 .left)
+
+at-opening : (c : tie.After-opening-length Inv-loop μ-loop) →
+    let r = begun-by (opened c) in
+    let l = looped (other r) .loop in
+    Comes (other r) startingCells (elementNumber Element.G0) (l .at + c .opening-length .result) (r .read-item .result .place)
+    (opened c .put-opening .last .1 .0)
+at-opening c =
+    let put = opened c .put-opening in
+    let r = begun-by (opened c) in
+    let a = other r in
+    let l = looped a .loop in
+    let to = called a .args .to in
+    subst (λ (n : ℕ). Comes a startingCells (elementNumber Element.G0) (l .at + n) (r .read-item .result .place) (put .last .1 .0))
+    (sym (c .opening-length .ensures))
+    (opening-goes-on (l .inv) (inside a) (itemOf (r .read-item .result)) (item-is r) (neither (opened c)) _ (put .kept .1 .0)
+    (λ h. put .ensures ∙ put-whole to (l .buffer) (l .at) (omega (arith, h, l .inv .passing .as-long))))
+
+add-at-3 : tie.Need-add-at-3 Inv-loop μ-loop
+add-at-3 c = omega (arith, within-thrice (at-opening c), called (other (begun-by (opened c))) .pre)
+
+loop-less-4 : tie.Need-loop-less-4 Inv-loop μ-loop
+loop-less-4 c =
+    let o = opened (c .before) in
+    let r = begun-by o in
+    let a = other r in
+    omega (
+      arith,
+      opening-onward (looped a .loop .inv) (inside a) (itemOf (r .read-item .result)) (item-is r) (neither o) .0,
+      opening-onward (looped a .loop .inv) (inside a) (itemOf (r .read-item .result)) (item-is r) (neither o) .1,
+    )
+
+loop-again-4 : tie.Need-loop-again-4 Inv-loop μ-loop
+loop-again-4 c =
+    let k = c .before in
+    let r = begun-by (opened k) in
+    let l = looped (other r) .loop in
+    subst (λ (x : List ℕ). Comes (other r) x (elementNumber Element.G0) (l .at + k .opening-length .result) (r .read-item .result .place)
+    (opened k .put-opening .last .1 .0)) (sym (c .starting2 .ensures)) (at-opening k)
 
 -- ---- the end of the text
 
@@ -283,15 +340,22 @@ pass-spec =
     loop-less-2
     loop-again-2
     (λ c κs. search needs)
-    (λ c κs. search needs)
-    (λ c. looped (other (c .before .before .before .before .before)) .loop .inv .passing .as-long)
-    returns
     write-requires
     put-if-room-requires-2
     add-at-2
     (λ c κs. search needs)
+    (λ c κs. search needs)
+    (λ c. looped (other (stopped c)) .loop .inv .passing .as-long)
+    returns
+    (λ c κs. search needs)
+    (λ c κs. search needs)
+    (λ c. search needs)
+    add-at-3
+    (λ c κs. search needs)
     loop-less-3
     loop-again-3
+    loop-less-4
+    loop-again-4
     (λ c κs. search needs)
     (λ c κs. search needs)
     (λ c. c .before .before .before .before .loop .inv .passing .as-long)

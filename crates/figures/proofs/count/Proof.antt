@@ -1,5 +1,5 @@
--- The loop keeps `Counts`: a run, a letter or an item goes on with it, and after a refusal the search.
-use Prim.Native.Nat.{_+_, _-_, _<_}
+-- The loop keeps `Counts`: a run, a letter, an item or an opening goes on with it, and after a refusal the search.
+use Prim.Native.Nat.{_+_, _-_, _≤_, _<_}
 use mathlib.Core.Path.{_≡_, sym, ap, _∙_, subst}
 use mathlib.Core.Bool.{true}
 use native.Mathlib.Omega.{arith}
@@ -7,12 +7,14 @@ use borrow.Author.Needs.{needs}
 use lib.ListN.{length, getD}
 use Rattle.paper.specs.Results.{charWord, refusedWord, instepWord}
 use Rattle.search.specs.declared.Opening.{Opening}
+use Rattle.items.specs.States.{startingCells}
 use Rattle.items.specs.Items.{itemOf, itemAt}
 use Rattle.items.specs.Letters.{isLetter}
 use Rattle.items.proofs.ItemsOfBytes.{letter-is, letter-item}
 use Rattle.figures.specs.Counting.{Fits, Counts, endAfter, figuresFrom}
 use Rattle.figures.proofs.AddedCounts.{room, fits-more}
-use Rattle.figures.proofs.CountingByItems.{item-counts, item-onward, item-word, plain-counts}
+use Rattle.figures.proofs.CountingByItems.{item-counts, item-onward, opens, plain-counts}
+use Rattle.figures.proofs.CountingOverOpenings.{withOpening, opening-onward, opening-counts}
 use Rattle.figures.proofs.CountingOverRefusals.{counts-start, counts-end, Searched, stops-onward, ends-inside, refused-counts}
 use Rattle.figures.proofs.count.Statement.{statement}
 use Rattle.figures.proofs.count.Tie as tie
@@ -54,7 +56,7 @@ loop-again-2 c =
     let t = c .before .before .before .before .before in
     rw (c .before .add .ensures)
     (plain-counts (looped (t .before) .loop .inv) (inside (t .before)) (letter-is _ _ _ (letter t) .ground)
-    (letter-item _ _ _ _ (inside (t .before)) (letter t)) (λ e. omega arith))
+    (letter-item _ _ _ _ (inside (t .before)) (letter t)) (omega arith))
 
 -- ---- an item
 
@@ -77,7 +79,7 @@ add-requires-2 : tie.Need-add-requires-2 Inv-loop μ-loop
 add-requires-2 c κs =
     let k = c .before .before in
     let i = item-looped k .loop .inv in
-    room (i .counting .fits) _ 1 (item-word i (inside-item k) (is k) (c .before .if3 .taken)) (omega arith)
+    room (i .counting .fits) _ 1 (omega (arith, c .before .if3 .taken)) (omega arith)
 
 loop-less-3 : tie.Need-loop-less-3 Inv-loop μ-loop
 loop-less-3 c =
@@ -92,61 +94,103 @@ loop-again-3 c =
     rw (c .change .ensures, c .before .before .before .add2 .ensures)
     (item-counts (item-looped k .loop .inv) (inside-item k) (is k) (t .if3 .taken))
 
+-- ---- an opening
+
+abbrev opened : tie.Then4 Inv-loop μ-loop → tie.After-struct-known Inv-loop μ-loop
+opened c = c .before .before .before
+
+after-opening : (c : tie.Then4 Inv-loop μ-loop) →
+    let k = opened c in
+    let l = item-looped k in
+    let there = read k .read-item .result .place in
+    (l .loop .place + 8 ≤ there) ×
+    Counts (called l .args .form) (called l .args .text .now) startingCells (withOpening (l .loop .counts)) (l .loop .first) there
+after-opening c =
+    let k = opened c in
+    let i = item-looped k .loop .inv in
+    let o = opens i (inside-item k) (is k) (c .if4 .taken) in
+    (opening-onward i o, opening-counts i o)
+
+add-requires-4 : tie.Need-add-requires-4 Inv-loop μ-loop
+add-requires-4 c κs =
+    let t = c .before .before .before .before in
+    let a = after-opening t in
+    room
+    (fits-more (item-looped (opened t) .loop .inv .counting .fits) _ _ (omega arith) (c .before .before .add3 .ensures)
+    (omega (arith, a .0, a .1 .counting .fits .within)))
+    _ _ (omega arith) (omega arith)
+
+loop-less-4 : tie.Need-loop-less-4 Inv-loop μ-loop
+loop-less-4 c =
+    let a = after-opening (c .before .before .before .before .before .before .before) in
+    omega (arith, a .0, a .1 .counting .fits .within)
+
+loop-again-4 : tie.Need-loop-again-4 Inv-loop μ-loop
+loop-again-4 c =
+    let t = c .before .before .before .before .before .before .before in
+    rw (c .starting2 .ensures, c .before .before .add4 .ensures, c .before .before .before .before .before .add3 .ensures)
+    (after-opening t .1)
+
 -- ---- a refusal
+
+abbrev other : tie.Else4 Inv-loop μ-loop → tie.After-struct-known Inv-loop μ-loop
+other c = c .before .before .before
 
 returns : tie.Need-returns Inv-loop μ-loop
 returns c =
     let e = c .before .before .before in
-    let k = e .before in
+    let k = other e in
     c .figures-of .ensures ∙
-    sym (ends-inside (item-looped k .loop .inv) (inside-item k) (is k) (e .if3 .left) (c .before .before .if4 .taken))
+    sym (ends-inside (item-looped k .loop .inv) (inside-item k) (is k) (e .before .before .if3 .left) (e .if4 .left)
+    (c .before .before .if5 .taken))
 
-abbrev refused : tie.After-add3 Inv-loop μ-loop → tie.After-struct-known Inv-loop μ-loop
-refused c = c .before .before .before .before
+abbrev refused : tie.After-add5 Inv-loop μ-loop → tie.Else4 Inv-loop μ-loop
+refused c = c .before .before .before
 
-refused-fits : (c : tie.After-add3 Inv-loop μ-loop) →
-    let l = item-looped (refused c) in Fits (called l .args .text .now) (c .add3 .last .0) (l .loop .place + 1)
+refused-fits : (c : tie.After-add5 Inv-loop μ-loop) →
+    let l = item-looped (other (refused c)) in Fits (called l .args .text .now) (c .add5 .last .0) (l .loop .place + 1)
 refused-fits c =
-    fits-more (item-looped (refused c) .loop .inv .counting .fits) refusedWord 1 (omega arith) (c .add3 .ensures)
-    (omega (arith, inside-item (refused c)))
+    let k = other (refused c) in
+    fits-more (item-looped k .loop .inv .counting .fits) refusedWord 1 (omega arith) (c .add5 .ensures) (omega (arith, inside-item k))
 
 -- what is counted after the search that ends so
-abbrev refusal : tie.After-opening-after Inv-loop μ-loop → tie.After-add3 Inv-loop μ-loop
+abbrev refusal : tie.After-opening-after Inv-loop μ-loop → tie.After-add5 Inv-loop μ-loop
 refusal c = c .before .before .before .before
 
 abbrev searched : tie.After-opening-after Inv-loop μ-loop → Opening → Type 0
 searched c o =
-    let k = refused (refusal c) in
+    let k = other (refused (refusal c)) in
     let s = called (item-looped k) .args in
-    Searched (s .form) (s .text .now) (refusal c .add3 .last .0) (c .before .first-with .result) (read k .read-item .result .place + 1) o
+    Searched (s .form) (s .text .now) (refusal c .add5 .last .0) (c .before .first-with .result) (read k .read-item .result .place + 1) o
 
 after-search : (c : tie.After-opening-after Inv-loop μ-loop) → searched c (c .opening-after .result)
 after-search c =
     let d = refusal c in
-    let e = d .before .before in
-    let k = refused d in
-    refused-counts (item-looped k .loop .inv) (inside-item k) (is k) (e .before .if3 .left) (omega (arith, e .if4 .left))
-    (d .add3 .ensures) (c .before .before .refusal-of .ensures) (c .before .first-with .ensures) (c .opening-after .ensures)
+    let e = refused d in
+    let k = other e in
+    refused-counts (item-looped k .loop .inv) (inside-item k) (is k) (e .before .before .if3 .left) (e .if4 .left)
+    (omega (arith, d .before .before .if5 .left)) (d .add5 .ensures) (c .before .before .refusal-of .ensures)
+    (c .before .first-with .ensures) (c .opening-after .ensures)
 
 found : (c : tie.After-known-told Inv-loop μ-loop) → searched (c .before .before .before) (Opening.Ends (c .before .after .given .0 .0))
 found c = let o = c .before .before .before in subst (searched o) (c .before .after .given .1) (after-search o)
 
-loop-less-4 : tie.Need-loop-less-4 Inv-loop μ-loop
-loop-less-4 c =
+loop-less-5 : tie.Need-loop-less-5 Inv-loop μ-loop
+loop-less-5 c =
     let t = c .before .before .before .before in
-    let d = refusal (t .before .before .before) in
-    let k = refused d in
+    let e = refused (refusal (t .before .before .before)) in
+    let k = other e in
     let f = found t in
     omega (
       arith,
       f .0,
       f .1,
       inside-item k,
-      stops-onward (item-looped k .loop .inv) (inside-item k) (is k) (d .before .before .before .if3 .left),
+      stops-onward (item-looped k .loop .inv) (inside-item k) (is k) (e .before .before .if3 .left) (e .if4 .left),
     )
 
-loop-again-4 : tie.Need-loop-again-4 Inv-loop μ-loop
-loop-again-4 c = rw (c .starting2 .ensures, c .before .before .add4 .ensures) (found (c .before .before .before .before) .2)
+loop-again-5 : tie.Need-loop-again-5 Inv-loop μ-loop
+loop-again-5 c = rw (c .starting3 .ensures, c .before .before .add6 .ensures) (found (c .before .before .before .before) .2)
 
 returns-2 : tie.Need-returns-2 Inv-loop μ-loop
 returns-2 c =
@@ -188,10 +232,17 @@ count-spec =
     loop-less-3
     loop-again-3
     (λ c. search needs)
-    (λ c κs. item-looped (c .before .before .before) .loop .inv .counting .fits .words)
+    (λ c κs. room (item-looped (opened (c .before)) .loop .inv .counting .fits) _ _ (omega arith) (omega arith))
+    (λ c. search needs)
+    add-requires-4
+    (λ c κs. search needs)
+    loop-less-4
+    loop-again-4
+    (λ c. search needs)
+    (λ c κs. item-looped (other (c .before .before)) .loop .inv .counting .fits .words)
     returns
     (λ c. search needs)
-    (λ c κs. room (item-looped (c .before .before .before) .loop .inv .counting .fits) refusedWord 1 (omega arith) (omega arith))
+    (λ c κs. room (item-looped (other (c .before .before)) .loop .inv .counting .fits) refusedWord 1 (omega arith) (omega arith))
     (λ c κs. search needs)
     (λ c κs. search needs)
     (λ c κs. search needs)
@@ -199,8 +250,8 @@ count-spec =
     (λ c. search needs)
     (λ c κs. room (refused-fits (refusal (c .before .before .before .before))) instepWord 1 (omega arith) (omega arith))
     (λ c κs. search needs)
-    loop-less-4
-    loop-again-4
+    loop-less-5
+    loop-again-5
     (λ c. search needs)
     (λ c. search needs)
     (λ c κs. refused-fits (refusal (c .before .before .before)) .words)

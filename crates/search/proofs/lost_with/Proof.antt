@@ -1,6 +1,5 @@
--- What a byte begins is what it matches alone.
+-- The calls give the parts of `lostWith`.
 use Rattle.paper.specs.Searching.{oneMore}
-use Rattle.search.proofs.MatchGoesOn.{first-match}
 use borrow.Author.Needs.{needs}
 use Rattle.search.proofs.lost_with.Statement.{statement}
 use Rattle.search.proofs.lost_with.Tie as tie
@@ -12,4 +11,4 @@ lost-with-spec =
     (tie.spec
     (λ c κs. search needs)
     (λ c κs. search needs)
-    (λ c. simp (c .before .begun .ensures, ← first-match, c .standing-at .ensures)))
+    (λ c. simp (c .before .matched-with .ensures, c .standing-at .ensures)))

@@ -24,23 +24,23 @@ returns c = search tests
 opening-length-requires : tie.Need-opening-length-requires Inv-loop μ-loop
 opening-length-requires c κs = search needs
 
-shared-slice-read-begun : tie.Need-shared-slice-read-begun Inv-loop μ-loop
-shared-slice-read-begun c = omega arith
-
-begun-requires : tie.Need-begun-requires Inv-loop μ-loop
-begun-requires c κs = search needs
-
-add-here : tie.Need-add-here Inv-loop μ-loop
-add-here c = omega arith
-
-loop-holds : tie.Need-loop-holds Inv-loop μ-loop
-loop-holds c = (omega arith, search-begins _ _ _ _ (omega arith) (c .begun .ensures))
-
 shared-slice-read-matched-with : tie.Need-shared-slice-read-matched-with Inv-loop μ-loop
 shared-slice-read-matched-with c = omega arith
 
 matched-with-requires : tie.Need-matched-with-requires Inv-loop μ-loop
 matched-with-requires c κs = search needs
+
+add-here : tie.Need-add-here Inv-loop μ-loop
+add-here c = omega arith
+
+loop-holds : tie.Need-loop-holds Inv-loop μ-loop
+loop-holds c = (omega arith, search-begins _ _ _ _ (omega arith) (c .matched-with .ensures))
+
+shared-slice-read-matched-with-2 : tie.Need-shared-slice-read-matched-with-2 Inv-loop μ-loop
+shared-slice-read-matched-with-2 c = omega arith
+
+matched-with-requires-2 : tie.Need-matched-with-requires-2 Inv-loop μ-loop
+matched-with-requires-2 c κs = search needs
 
 add-here-2 : tie.Need-add-here-2 Inv-loop μ-loop
 add-here-2 c = omega arith
@@ -49,7 +49,7 @@ returns-2 : tie.Need-returns-2 Inv-loop μ-loop
 returns-2 c =
     sym
     (c .before .before .before .before .loop .inv .1 ∙
-    search-ends _ _ _ _ _ (c .before .before .before .loop-test .taken) (c .before .matched-with .ensures)
+    search-ends _ _ _ _ _ (c .before .before .before .loop-test .taken) (c .before .matched-with2 .ensures)
     (c .if2 .taken ∙ c .before .before .before .before .before .before .before .opening-length .ensures))
 
 loop-less : tie.Need-loop-less Inv-loop μ-loop
@@ -59,7 +59,7 @@ loop-again : tie.Need-loop-again Inv-loop μ-loop
 loop-again c = (
   omega arith,
   c .before .before .before .before .loop .inv .1 ∙
-      search-goes-on _ _ _ _ _ (c .before .before .before .loop-test .taken) (c .before .matched-with .ensures)
+      search-goes-on _ _ _ _ _ (c .before .before .before .loop-test .taken) (c .before .matched-with2 .ensures)
       (λ e. c .if2 .left (e ∙ sym (c .before .before .before .before .before .before .before .opening-length .ensures))),
 )
 
@@ -74,12 +74,12 @@ opening-after-spec =
     μ-loop
     returns
     opening-length-requires
-    shared-slice-read-begun
-    begun-requires
-    add-here
-    loop-holds
     shared-slice-read-matched-with
     matched-with-requires
+    add-here
+    loop-holds
+    shared-slice-read-matched-with-2
+    matched-with-requires-2
     add-here-2
     returns-2
     loop-less

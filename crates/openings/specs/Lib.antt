@@ -1,0 +1,3 @@
+pub mod NextMatch
+pub mod InBuffers
+pub mod Numbers

@@ -1,0 +1,15 @@
+-- An arm for each standing.
+use borrow.Author.Needs.{needs}
+use Rattle.reader.proofs.recorded.Statement.{statement}
+use Rattle.reader.proofs.recorded.Tie as tie
+
+pub recorded-spec : {M : Type 1} → statement M
+recorded-spec =
+    tie.close
+    (tie.spec
+    (λ c. search needs)
+    (λ c κs. search needs)
+    (λ c. search needs)
+    (λ c κs. search needs)
+    (λ c. simp (c .before .enum-told .given .1, c .with-record .ensures))
+    (λ c. simp (c .before .enum-told2 .given .1, c .with-record2 .ensures)))
