@@ -1,4 +1,5 @@
-"""A model of the reader, written from the paper 'What we are building and its rules' and from nothing else.
+"""A model of the reader, written from the paper 'What we are building and its rules' and from nothing else; opening
+marks from the customers' request #104, 'Openings vanish on the way'.
 
 It is slow and plain: it says what the paper says, so that a real reader can be compared with it.
 The titles in quotes in the comments are the paper's section names.
@@ -7,6 +8,7 @@ The titles in quotes in the comments are the paper's section names.
     state = reader_model.start(8)                        # the form, 7 or 8
     answer, state = reader_model.feed(state, 0x41)       # one byte
     reader_model.end_word(state)                         # 'whole', 'inside' or 'lost'
+    reader_model.is_mark(state, text, 0, offset)         # whether the byte there is an opening mark
     reader_model.listing(8, text)                        # the lines of 'Lister'
 
 tests/model-answers prints what it answers to given texts; tests/texts-for-answers makes such texts.
@@ -285,6 +287,16 @@ def end_word(state):
     if isinstance(state.place, Lost):
         return 'lost'
     return 'whole' if isinstance(state.place, Ground) else 'inside'
+
+
+def is_mark(state, text, since, offset):
+    """Request #104: the last byte of a complete opening, read by a reader that isn't lost, is an opening mark.
+
+    state is the reader's before the byte at the offset. since is the offset that the bytes of the opening may begin
+    at: 0, or the one after the latest instep. The byte's own answer stays what it is, and so does the state.
+    """
+    in_step = not isinstance(state.place, Lost)
+    return in_step and text.endswith(OPENING[state.form], since, offset + 1)
 
 
 def read(form, text):

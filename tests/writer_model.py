@@ -1,4 +1,5 @@
-"""A model of the two writers and of conversion, written from the paper 'What we are building and its rules'.
+"""A model of the two writers and of conversion, written from the paper 'What we are building and its rules', and
+from the customers' request #104, 'Openings vanish on the way', which puts opening marks into the sequence.
 
 It is slow and plain, as reader_model.py is, which does the reading here. Forms are named by 7 and 8: a
 conversion to 7 takes a text in 8-bit form, one to 8 a text in 7-bit form. The titles in quotes in the comments
@@ -13,7 +14,7 @@ are the paper's section names.
 tests/model-conversions prints what it says of given cases; tests/texts-for-conversions makes such cases.
 """
 
-from collections import namedtuple
+from collections import deque, namedtuple
 
 import reader_model
 from reader_model import ESC, LONGEST_TEXT, SI, SO, SS2, SS3, at
@@ -25,38 +26,69 @@ FORM_READ = {7: 8, 8: 7}
 Refusal = namedtuple('Refusal', 'number place')
 # A conversion that is accepted returns the length of its output.
 Done = namedtuple('Done', 'length')
+# Request #104: the one item of a sequence that no byte answers.
+MARK = reader_model.Answer('mark', ())
 
 
 # --- The sequence of a text
 
+# The longest texts go through the same few states again and again: so many are remembered.
+STATES_REMEMBERED = 4
+
+
+def remembered(lately, state):
+    """The state and what was answered in it to each byte, as far as it is one of the latest."""
+    for met in lately:
+        if met[0] == state:
+            return met
+    lately.append((state, {}))
+    return lately[-1]
+
+
 def answers_and_states(form, text):
-    """The answer to each byte and the state after it. As long as the state stays what it is, a byte is answered
-    from what was answered to its like: the longest texts stay in one state for long."""
-    state, known = reader_model.start(form), {}
+    """The answer to each byte and the state after it. Where the state is remembered, a byte is answered from what was
+    answered to its like."""
+    lately = deque(maxlen=STATES_REMEMBERED)
+    state, known = remembered(lately, reader_model.start(form))
     for byte in text:
         if byte not in known:
             known[byte] = reader_model.feed(state, byte)
         answer, after = known[byte]
         if after != state:
-            state, known = after, {}
+            state, known = remembered(lately, after)
         yield answer, state
 
 
-def sequence(form, text):
-    """'The two written forms': the answers without shifts and nothing yet, up to the first refusal.
+def sequence_with_shifts(form, text):
+    """The answers without nothing yet, up to the first refusal, and the marks, each after the shift that ends its
+    opening.
 
-    Gives the items and the first refusal of 1 to 7 with its place, None if there is none. 7 is met at the end,
-    so it comes after 1 to 6; a text that comes back in step is refused all the same.
+    Gives them and the first refusal of 1 to 7 with its place, None if there is none. 7 is met at the end, so it
+    comes after 1 to 6; a text that comes back in step is refused all the same.
     """
     state, items = reader_model.start(form), []
-    for place, (answer, state) in enumerate(answers_and_states(form, text)):
+    for place, (answer, after) in enumerate(answers_and_states(form, text)):
         if answer.word == 'refused':
             return items, Refusal(answer.fields[0], place)
-        if answer.word not in ('shift', 'nothing yet'):
+        if answer.word != 'nothing yet':
             items.append(answer)
+        # Before the first refusal there is no instep, so an opening may begin anywhere since the start.
+        if answer.word == 'shift' and reader_model.is_mark(state, text, 0, place):
+            items.append(MARK)
+        state = after
     if reader_model.end_word(state) == 'inside':
         return items, Refusal(7, len(text))
     return items, None
+
+
+def without_shifts(items):
+    return [item for item in items if item.word != 'shift']
+
+
+def sequence(form, text):
+    """'The two written forms': the answers without shifts and nothing yet; request #104: and the marks."""
+    items, refusal = sequence_with_shifts(form, text)
+    return without_shifts(items), refusal
 
 
 # --- What both writers write alike
@@ -95,6 +127,11 @@ class Writer:
     def control(self, element, number):
         return bytes([number]) if element == 'C0' else self.c1_function(number)
 
+    def mark(self):
+        """Request #104: the designations of the opening are written already; GL then shows G0."""
+        self.state = self.state._replace(gl='G0')
+        return self.MARK
+
     def item(self, item):
         """The bytes of one item of a sequence."""
         word, fields = item
@@ -110,6 +147,8 @@ class Writer:
             return self.designate(*fields)
         if word == 'other':
             return bytes([ESC]) + fields[0]
+        if item == MARK:
+            return self.mark()
         raise ValueError('not written: %s' % word)
 
 
@@ -120,6 +159,7 @@ class SevenBitWriter(Writer):
 
     SINGLE_SHIFT = {'G2': bytes([ESC, at(4, 14)]), 'G3': bytes([ESC, at(4, 15)])}
     LOCKING_SHIFT = {'G0': bytes([SI]), 'G1': bytes([SO])}
+    MARK = bytes.fromhex('0E 0F')
 
     def __init__(self):
         super().__init__(7)
@@ -147,9 +187,11 @@ class SevenBitWriter(Writer):
 
 
 class EightBitWriter(Writer):
-    """'The two written forms', 8-bit: no locking shift is written, so GL shows G0 and GR shows G1 all along."""
+    """'The two written forms', 8-bit: no locking shift is written but at a mark, where they put into GL and GR what
+    is there already: GL shows G0 and GR shows G1 all along."""
 
     SINGLE_SHIFT = {'G2': bytes([SS2]), 'G3': bytes([SS3])}
+    MARK = bytes.fromhex('0F 1B 7E')
 
     def __init__(self):
         super().__init__(8)
@@ -209,19 +251,32 @@ def result_line(result):
 
 # --- What must hold of every output
 
+# Those of a mark are left aside.
 SHIFTS_WRITTEN = {7: ('LS0', 'LS1', 'SS2', 'SS3'), 8: ('SS2', 'SS3')}
+
+
+def shifts_but_those_of_marks(items):
+    """The names of the shifts; an opening ends with two of them in both forms, and its mark stands after them."""
+    names = []
+    for item in items:
+        if item == MARK:
+            del names[-2:]
+        elif item.word == 'shift':
+            names.append(item.fields[0])
+    return names
 
 
 def fault_of(form, items, output):
     """What is wrong with the output of an accepted text, None if nothing is: read in its own form it must give
-    the same sequence, with no other shifts than those its writer may write."""
-    state, answers = reader_model.start(form), []
-    for answer, state in answers_and_states(form, output):
-        answers.append(answer)
-    if reader_model.end_word(state) != 'whole':
-        return 'the output ends %s' % reader_model.end_word(state)
-    if [answer for answer in answers if answer.word not in ('shift', 'nothing yet')] != items:
+    the same sequence, with the same marks, and with no other shifts than those its writer may write."""
+    found, refusal = sequence_with_shifts(form, output)
+    if refusal is not None:
+        return 'the output is refused with %d at %d' % refusal
+    if without_shifts(found) != items:
         return 'the output has another sequence'
-    if any(answer.word == 'shift' and answer.fields[0] not in SHIFTS_WRITTEN[form] for answer in answers):
+    if any(name not in SHIFTS_WRITTEN[form] for name in shifts_but_those_of_marks(found)):
         return 'the output has a shift that is not written in this form'
+    # The same once more, without a look at states: the bytes of an opening stand together once for each mark.
+    if output.count(reader_model.OPENING[form]) != items.count(MARK):
+        return 'the output has another number of openings than the sequence has marks'
     return None
