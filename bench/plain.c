@@ -1,12 +1,13 @@
 /* What the programs survey and convert do, in plain C: the baseline that bench/run holds them against. It was written from the
-   paper (document 01); the comments name its sections.
+   paper (document 01), whose sections the comments name, and from request #104 (document 02).
 
        plain survey [7] < TEXT      what survey prints; with 7 the text is in 7-bit form
        plain convert 7|8 < TEXT     what convert prints; the text is in the other form
 
-   A reader takes one byte at a time and gives the answer's word; a writer takes the bytes of what was answered from the text. A
-   conversion reads its text once, writes into memory of its own as it goes, and copies that to the lent buffer where the text was
-   accepted. Final Bytes of the sets and the number of bytes skipped are not kept, since neither program prints them. */
+   A reader takes one byte at a time, or an opening whole, and gives the answer's word; a writer takes the bytes of what was
+   answered from the text. A conversion reads its text once, writes into memory of its own as it goes, and copies that to the lent
+   buffer where the text was accepted. Final Bytes of the sets and the number of bytes skipped are not kept, since neither program
+   prints them. */
 
 /* The kit has the C library but no headers of it; this is what is used. */
 typedef unsigned long size_t;
@@ -14,6 +15,7 @@ long read(int file, void *bytes, size_t count);
 long write(int file, const void *bytes, size_t count);
 int dprintf(int file, const char *format, ...);
 int strcmp(const char *left, const char *right);
+int memcmp(const void *left, const void *right, size_t count);
 void *memcpy(void *to, const void *from, size_t count);
 
 enum { STANDARD_INPUT, STANDARD_OUTPUT, STANDARD_ERROR };
@@ -29,8 +31,8 @@ enum form { SEVEN, EIGHT };
 enum element { G0, G1, G2, G3 };
 enum place { GROUND, IN_SEQUENCE, AFTER_SINGLE_SHIFT, IN_CHARACTER, LOST };
 
-/* 'Answer to one byte', in the paper's order. */
-enum answer { NOTHING_YET, CHARACTER, SPACE, DELETE, CONTROL, DESIGNATE, SHIFT, OTHER, REFUSED, SKIPPED, INSTEP, ANSWERS };
+/* 'Answer to one byte', in the paper's order, and the answer to an opening taken whole. */
+enum answer { NOTHING_YET, CHARACTER, SPACE, DELETE, CONTROL, DESIGNATE, SHIFT, OTHER, REFUSED, SKIPPED, INSTEP, OPENING, ANSWERS };
 
 struct set {
     unsigned char type;  /* 94 or 96 */
@@ -56,6 +58,11 @@ struct reader {
     0x1B, 0x21, 0x40, 0x1B, 0x22, 0x43, 0x1B, 0x28, 0x42, 0x1B, 0x2D, 0x46, 0x1B, 0x2E, 0x41, 0x1B, 0x2F, 0x4C
 static const unsigned char opening_7[] = {BOTH_BEGIN, 0x0E, 0x0F};
 static const unsigned char opening_8[] = {BOTH_BEGIN, 0x0F, 0x1B, 0x7E};
+
+static int opening_length(enum form form)
+{
+    return form == SEVEN ? sizeof opening_7 : sizeof opening_8;
+}
 
 /* 'Code table and elements', Starting state. */
 static void start(struct reader *reader, enum form form)
@@ -84,9 +91,8 @@ static int matched_with(const unsigned char *opening, int matched, unsigned char
 static enum answer search(struct reader *reader, unsigned char byte)
 {
     const unsigned char *opening = reader->form == SEVEN ? opening_7 : opening_8;
-    int whole = reader->form == SEVEN ? sizeof opening_7 : sizeof opening_8;
     reader->matched = matched_with(opening, reader->matched, byte);
-    if (reader->matched < whole)
+    if (reader->matched < opening_length(reader->form))
         return SKIPPED;
     start(reader, reader->form);
     return INSTEP;
@@ -177,14 +183,27 @@ static enum answer gr_byte(struct reader *reader, unsigned char byte)
     return first_byte(reader, reader->gr, byte);
 }
 
-static enum answer c0_byte(struct reader *reader, unsigned char byte)
+static bool opening_at(enum form form, const unsigned char *at, const unsigned char *end)
 {
-    switch (byte) {
+    size_t left = end - at;
+    if (form == SEVEN)
+        return left >= sizeof opening_7 && memcmp(at, opening_7, sizeof opening_7) == 0;
+    return left >= sizeof opening_8 && memcmp(at, opening_8, sizeof opening_8) == 0;
+}
+
+/* An opening that is read in step begins here: off the ground its ESC is refused. After it the state is the starting one. */
+static enum answer c0_byte(struct reader *reader, const unsigned char *at, const unsigned char *end)
+{
+    switch (*at) {
     case SO:
         return show_in_gl(reader, G1);
     case SI:
         return show_in_gl(reader, G0);
     case ESC:
+        if (opening_at(reader->form, at, end)) {
+            start(reader, reader->form);
+            return OPENING;
+        }
         reader->place = IN_SEQUENCE;
         reader->intermediate_count = 0;
         return NOTHING_YET;
@@ -319,13 +338,15 @@ static enum answer off_ground(struct reader *reader, unsigned char byte)
     }
 }
 
-/* Most bytes are read on the ground. This is compiled into the loops that call it, off_ground is not. */
-[[gnu::always_inline]] static inline enum answer answer_to(struct reader *reader, unsigned char byte)
+/* The text goes on to the end. Most bytes are read on the ground. This is compiled into the loops that call it, off_ground is
+   not. */
+[[gnu::always_inline]] static inline enum answer answer_to(struct reader *reader, const unsigned char *at, const unsigned char *end)
 {
+    unsigned char byte = *at;
     if (reader->place != GROUND)
         return off_ground(reader, byte);
     if (byte < AT(2, 0))
-        return c0_byte(reader, byte);
+        return c0_byte(reader, at, end);
     if (byte < AT(8, 0))
         return gl_byte(reader, byte);
     if (reader->form == SEVEN)
@@ -347,7 +368,8 @@ static const char *end_word(enum place place)
     }
 }
 
-/* 'The two written forms'. A writer is given an answer and where in the text its last byte stands, with the others before it. */
+/* 'The two written forms'. A writer is given an answer and where in the text its last byte stands, with the others before it. An
+   opening is written without looking at the text. */
 
 struct writer {
     enum form form;
@@ -435,6 +457,17 @@ static void put_space_or_delete(struct writer *writer, const struct reader *read
     put(writer, byte);
 }
 
+/* #104: an opening of the form that is read is written as that of the form that is written. It ends with G0 in GL. */
+static void put_opening(struct writer *writer)
+{
+    if (writer->form == SEVEN)
+        memcpy(writer->end, opening_7, sizeof opening_7);
+    else
+        memcpy(writer->end, opening_8, sizeof opening_8);
+    writer->end += opening_length(writer->form);
+    writer->gl = G0;
+}
+
 static void put_answer(struct writer *writer, const struct reader *reader, enum answer answer, const unsigned char *last)
 {
     switch (answer) {
@@ -455,6 +488,9 @@ static void put_answer(struct writer *writer, const struct reader *reader, enum 
         break;
     case OTHER:
         put_sequence(writer, reader, last);
+        break;
+    case OPENING:
+        put_opening(writer);
         break;
     default:
         break;
@@ -483,11 +519,14 @@ static struct converted write_draft(enum form form, const unsigned char *text, s
     struct writer writer = {.form = form, .gl = G0, .end = draft};
     struct reader reader;
     start(&reader, form == SEVEN ? EIGHT : SEVEN);
-    for (size_t i = 0; i < length; i++) {
-        enum answer answer = answer_to(&reader, text[i]);
+    const unsigned char *end = text + length;
+    for (const unsigned char *at = text; at < end; at++) {
+        enum answer answer = answer_to(&reader, at, end);
         if (answer == REFUSED)
-            return refused(reader.refusal, i);
-        put_answer(&writer, &reader, answer, text + i);
+            return refused(reader.refusal, at - text);
+        put_answer(&writer, &reader, answer, at);
+        if (answer == OPENING)
+            at += opening_length(reader.form) - 1;
     }
     if (reader.place != GROUND)
         return refused(7, length);
@@ -516,19 +555,25 @@ struct figures {
     enum place end;
 };
 
+/* An opening taken whole is six designations and two shifts. */
 static void survey(struct figures *figures, enum form form, const unsigned char *text, size_t length)
 {
     struct reader reader;
     start(&reader, form);
     *figures = (struct figures){0};
-    for (size_t i = 0; i < length; i++) {
-        enum answer answer = answer_to(&reader, text[i]);
+    const unsigned char *end = text + length;
+    for (const unsigned char *at = text; at < end; at++) {
+        enum answer answer = answer_to(&reader, at, end);
         figures->counts[answer]++;
         if (answer == REFUSED && figures->first_refusal == 0) {
             figures->first_refusal = reader.refusal;
-            figures->first_place = i;
+            figures->first_place = at - text;
         }
+        if (answer == OPENING)
+            at += opening_length(form) - 1;
     }
+    figures->counts[DESIGNATE] += 6 * figures->counts[OPENING];
+    figures->counts[SHIFT] += 2 * figures->counts[OPENING];
     figures->end = reader.place;
 }
 
