@@ -135,7 +135,10 @@ fn passes_alone(lane: Lane, byte: u8) -> bool
     if SPACE <= byte {
         return true;
     }
-    passes(lane, byte)
+    if is_quiet(byte) {
+        return true;
+    }
+    between(lane.first, lane.last, byte)
 }
 
 // Whether the byte at a place passes.

@@ -1,6 +1,6 @@
--- Above the plain bytes the bounds decide, and from SPACE on a plain byte is quiet.
+-- Above the plain bytes the bounds decide, from SPACE on a plain byte is quiet, and one that is not quiet is left to the bounds.
 use Prim.Native.Nat.{ℕ, _<_, _≤_}
-use mathlib.Core.Path.{_≡_, refl}
+use mathlib.Core.Path.{_≡_, refl, sym, _∙_}
 use mathlib.Core.Bool.{Bool, true, false}
 use native.Mathlib.Omega.{arith}
 use borrow.Author.Needs.{needs}
@@ -30,11 +30,17 @@ by-last : (x : Lane) (b : ℕ) → x .plain < b → x .first ≤ b → leb b (x 
 unfolding passes between
 by-last x b h k = rw (le-leb (x .first) b k, lt-leb b (x .plain) h) (itself (leb b (x .last)))
 
-plain-quiet : (x : Lane) (b : ℕ) → b ≤ x .plain → 32 ≤ b → true ≡ passes x b
-unfolding passes isQuiet
-plain-quiet x b h k =
-    rw (le-leb b (x .plain) h, ne-eqb b esc (λ e. omega arith), above-bounds so si b (omega arith) (omega arith))
-    (true-anyway (between (x .first) (x .last) b))
+plain-quiet : (x : Lane) (b : ℕ) → b ≤ x .plain → isQuiet b ≡ true → true ≡ passes x b
+unfolding passes
+plain-quiet x b h quiet = rw (le-leb b (x .plain) h, quiet) (true-anyway (between (x .first) (x .last) b))
+
+from-space : (b : ℕ) → 32 ≤ b → isQuiet b ≡ true
+unfolding isQuiet
+from-space b k = rw (ne-eqb b esc (λ e. omega arith), above-bounds so si b (omega arith) (omega arith))
+
+by-bounds : (x : Lane) (b : ℕ) → b ≤ x .plain → isQuiet b ≡ false → between (x .first) (x .last) b ≡ passes x b
+unfolding passes
+by-bounds x b h loud = rw (le-leb b (x .plain) h, loud) (itself (between (x .first) (x .last) b))
 
 pub passes-alone-spec : {M : Type 1} → statement M
 passes-alone-spec =
@@ -42,6 +48,8 @@ passes-alone-spec =
     (tie.spec
     (λ c. below-bounds _ _ (omega arith) (omega arith))
     (λ c. by-last _ _ (omega arith) (omega arith))
-    (λ c. plain-quiet _ _ (omega arith) (omega arith))
+    (λ c. plain-quiet _ _ (omega arith) (from-space _ (omega arith)))
     (λ c κs. search needs)
-    (λ c. search needs))
+    (λ c. plain-quiet _ _ (omega arith) (sym (c .before .is-quiet .ensures) ∙ c .if4 .taken))
+    (λ c κs. search needs)
+    (λ c. c .between .ensures ∙ by-bounds _ _ (omega arith) (sym (c .before .before .is-quiet .ensures) ∙ c .before .if4 .left)))
