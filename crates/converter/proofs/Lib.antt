@@ -7,5 +7,6 @@ pub mod PassByPieces
 pub mod PassEnds
 pub mod PassGoesOn
 pub mod RunsGoOn
+pub mod StretchEnds
 pub mod WaysCopy
 pub mod WritesAnswers

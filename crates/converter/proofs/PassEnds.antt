@@ -5,8 +5,7 @@ use mathlib.Core.List.{List}
 use native.Mathlib.Omega.{arith}
 use lib.ListN.{length}
 use Rattle.paper.specs.Answering.{endWithin, endOfText, endStanding}
-use Rattle.paper.specs.LentBuffers.{over}
-use Rattle.paper.specs.Conversions.{refusalAtEnd, refusalIn, Accepted, output}
+use Rattle.paper.specs.Conversions.{refusalAtEnd, refusalIn, output}
 use Rattle.paper.specs.declared.Form.{Form}
 use Rattle.paper.specs.declared.Element.{Element}
 use Rattle.paper.specs.declared.Refusal.{Refusal}
@@ -18,13 +17,8 @@ use Rattle.paper.proofs.Choices.{impossible}
 use Rattle.items.specs.States.{singleIn, Single, none, one, singleNumber, withinOf}
 use Rattle.converter.specs.Passes.{passedBy, atTheEnd}
 use Rattle.converter.specs.Passing.{Passes}
+use Rattle.converter.specs.Stretches.{Promised}
 use Rattle.converter.proofs.PassGoesOn.{passing-ends}
-
--- the answer, and the buffer where the text is accepted and has room
-abbrev pub Promised : Form → Form → List ℕ → List ℕ → Converted → List ℕ → Type 0
-Promised m to text lent answer buffer =
-    (answer ≡ passedBy (refusalIn m text) (length (output m to text))) ×
-    (Accepted m text → length (output m to text) ≤ length lent → buffer ≡ over (output m to text) lent)
 
 pub refused-promised : (m to : Form) (text lent buffer : List ℕ) (n : Refusal) (place : ℕ) →
     refusalIn m text ≡ First n place → Promised m to text lent (Converted.Refused n place) buffer

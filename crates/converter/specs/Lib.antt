@@ -1,4 +1,5 @@
 pub mod Passes
 pub mod Passing
 pub mod Runs
+pub mod Stretches
 pub mod Writing

@@ -311,7 +311,7 @@ fn over_gap(to: Form, text: &[u8], place: usize, buffer: &mut [u8], at: usize) -
     }
 }
 
-// A run of the lane from a letter on, byte by byte at first, since most runs are words.
+// A run of the lane from a letter on, byte by byte at first, since most runs are words: blocks are tried after so many bytes.
 pub(crate) fn copy_run(
     to: Form,
     state: &[u8; CELLS],
@@ -338,10 +338,10 @@ pub(crate) fn copy_run(
     let gaps = has_gaps(to, state, byte);
     let mut here = place;
     let mut put = at;
-    let mut start = place;
+    let mut tried = place + BLOCK;
     while here < text.len() {
         if byte_ahead(lane, text, here) {
-            if here - start == BLOCK {
+            if here == tried {
                 let end = copy_blocks(way, text, here, buffer, put);
                 return run_to(end, put + (end - here));
             }
@@ -358,7 +358,7 @@ pub(crate) fn copy_run(
             let gap = over_gap(to, text, here, buffer, put);
             here = gap.place;
             put = gap.at;
-            start = here;
+            tried = here + BLOCK;
         }
     }
     run_to(here, put)

@@ -30,9 +30,9 @@ use Rattle.converter.proofs.run.copy_run.Statement.{statement}
 use Rattle.converter.proofs.run.copy_run.Tie as tie
 
 abbrev Inv-loop : tie.InvT-loop
-Inv-loop to state text place buffer₀ at byte way lane gaps here₀ put₀ start₀ buffer here put start =
-    (place ≤ start) ×
-    (start ≤ here) ×
+Inv-loop to state text place buffer₀ at byte way lane gaps here₀ put₀ tried₀ buffer here put tried =
+    (place < tried) ×
+    (place ≤ here) ×
     (here ≤ length text) ×
     (put ≤ at + 4 * (here - place)) ×
     (length buffer ≡ length buffer₀) ×
@@ -40,7 +40,7 @@ Inv-loop to state text place buffer₀ at byte way lane gaps here₀ put₀ star
     Passes m to text lent state shown put here buffer)
 
 abbrev μ-loop : tie.MeasureT-loop
-μ-loop to state text place buffer₀ at byte way lane gaps here₀ put₀ start₀ buffer here put start = length text - here
+μ-loop to state text place buffer₀ at byte way lane gaps here₀ put₀ tried₀ buffer here put tried = length text - here
 
 -- ---- laws
 
@@ -158,11 +158,11 @@ returns c =
     let l = blocked k in
     let i = l .loop .inv in
     let run = k .before .before .copy-blocks in
-    let more : l .loop .here - l .loop .start ≡ 16 = k .before .before .before .before .if2 .taken in
+    let more : l .loop .here ≡ l .loop .tried = k .before .before .before .before .if2 .taken in
     subst (Promised l (run .last .1 .1 .1 .0)) (sym (c .run-to .ensures)) (
       run .ensures .0 .1,
       λ m shown lent b p. (
-        omega (arith, more, run .ensures .0),
+        omega (arith, more, i .0, run .ensures .0),
         run .ensures .1 m _ _ shown lent (letter-is m _ _ (b .letter) .ground) (copies l m shown lent b p) (i .5 m shown lent b p),
       ),
     )
@@ -264,9 +264,9 @@ copy-run-spec =
     (λ c. search needs)
     (λ c κs. search needs)
     (λ c κs. search needs)
+    (λ c. omega arith)
     loop-holds
     (λ c κs. search needs)
-    (λ c. c .before .before .before .loop .inv .1)
     copy-blocks-requires
     (λ c. c .before .before .copy-blocks .ensures .0 .0)
     add-run-to
@@ -288,6 +288,7 @@ copy-run-spec =
     (λ c. c .before .before .before .before .before .before .before .loop .inv .4)
     (λ c. ended (c .before .before .before .before) (c .run-to3 .result) (c .run-to3 .ensures))
     over-gap-requires
+    (λ c. let f = further c in let pre = called (at-gap (over c .before)) .pre in omega arith)
     (λ c. let f = further c in omega arith)
     loop-again-2
     (λ c κs. search needs)

@@ -1,7 +1,7 @@
 -- Both sides ask whether a single shift stands.
 use Rattle.paper.proofs.Tests.{tests}
-use Rattle.converter.proofs.at_the_end.Statement.{statement}
-use Rattle.converter.proofs.at_the_end.Tie as tie
+use Rattle.converter.proofs.stretch.at_the_end.Statement.{statement}
+use Rattle.converter.proofs.stretch.at_the_end.Tie as tie
 
 returns : tie.Need-returns
 returns c = search tests
