@@ -1,5 +1,5 @@
 -- What is added to one count after another is there in whatever order and however often it was added, by the lists' entries.
-use Prim.Native.Nat.{ℕ, _+_, _*_, _≤_, _<_}
+use Prim.Native.Nat.{ℕ, _+_, _-_, _*_, _≤_, _<_}
 use mathlib.Core.Path.{_≡_, refl, sym, _∙_, subst}
 use mathlib.Core.Bool.{Bool, true, false}
 use mathlib.Core.List.{List}
@@ -12,7 +12,7 @@ use Rattle.paper.specs.Choice.{_gives_or_}
 use Rattle.paper.specs.Refusals.{longestText}
 use Rattle.paper.specs.Results.{charWord, controlWord}
 use Rattle.paper.proofs.Choices.{gives-has}
-use Rattle.figures.specs.Counting.{added, Fits}
+use Rattle.figures.specs.Counting.{added, tally, Takes, Fits}
 
 -- what one entry has of so many more of a word
 unfoldable pub part : ℕ → ℕ → ℕ → ℕ
@@ -60,9 +60,33 @@ module _ {text counts : List ℕ} {place : ℕ} (f : Fits text counts place) (i 
         bounded = λ w. omega (arith, entry counts i n w (omega (arith, f .words)), part-most i n w, f .bounded w);
       })
 
--- controls, 2/0 by its word, and other characters
-abbrev pub tally : List ℕ → ℕ → ℕ → ℕ → ℕ → List ℕ
-tally counts spaces c s o = added (added (added counts controlWord c) spaces s) charWord o
+-- so many more of all words together
+pub takes : {text counts : List ℕ} {place all : ℕ} → Fits text counts place → place + all ≤ length text → Takes counts all
+takes f within = record { words = f .words; bounded = λ w. omega (arith, f .bounded w, f .short) }
+
+pub takes-more : {counts after : List ℕ} {some all : ℕ} → Takes counts all → some ≤ all → (i : ℕ) → i < 11 → after ≡ added counts i some →
+    {left : ℕ} → left ≡ all - some → Takes after left
+takes-more {counts} {after} {some} t few i below is left-is =
+    rw (is, left-is)
+    (record {
+      words = length-set counts i (getD counts i 0 + some) ∙ t .words;
+      bounded = λ w. omega (arith, entry counts i some w (omega (arith, t .words)), part-most i some w, t .bounded w);
+    })
+
+pub takes-room : {counts : List ℕ} {all : ℕ} → Takes counts all → (i n : ℕ) → i < 11 → n ≤ all →
+    (i < length counts) × (getD counts i 0 + n ≤ 2 * longestText)
+takes-room t i n below few = (omega (arith, t .words), omega (arith, t .bounded i))
+
+pub tallied : (counts : List ℕ) (spaces c s o : ℕ) {one two three : List ℕ} {word : ℕ} → one ≡ added counts controlWord c →
+    word ≡ spaces → two ≡ added one word s → three ≡ added two charWord o → three ≡ tally counts spaces c s o
+tallied counts spaces c s o is-one is-word is-two is-three = rw (is-three, is-two, is-word, is-one)
+
+pub tally-long : (counts : List ℕ) (spaces c s o : ℕ) → length (tally counts spaces c s o) ≡ length counts
+tally-long counts spaces c s o =
+    let one : List ℕ = added counts controlWord c in
+    let two : List ℕ = added one spaces s in
+    length-set two charWord (getD two charWord 0 + o) ∙
+    (length-set one spaces (getD one spaces 0 + s) ∙ length-set counts controlWord (getD counts controlWord 0 + c))
 
 pub tally-is : (counts : List ℕ) → length counts ≡ 11 → (spaces c s o : ℕ) → spaces < 11 → (after : List ℕ) → length after ≡ 11 →
     ((w : ℕ) → getD after w 0 ≡ getD counts w 0 + part controlWord c w + part spaces s w + part charWord o w) →

@@ -36,6 +36,7 @@ use Rattle.items.specs.States.{startingCells}
 use Rattle.items.specs.Items.{Item}
 use Rattle.items.proofs.ItemsByBytes.{Opens}
 use Rattle.figures.specs.Counting.{added, Fits, HasFigure, Counting, Counts}
+use Rattle.figures.specs.Stretches.{withOpening}
 use Rattle.figures.proofs.AddedCounts.{part, part-more, part-of-none, entry, fits-more}
 use Rattle.figures.proofs.RestToCount.{one-and}
 use Rattle.figures.proofs.CountingOverRefusals.{in-step-again}
@@ -122,9 +123,6 @@ at-least-eight Form.Seven = omega arith
 at-least-eight Form.Eight = omega arith
 
 -- ---- what is counted goes on over it
-
-abbrev pub withOpening : List ℕ → List ℕ
-withOpening counts = added (added counts designateWord 6) shiftWord 2
 
 module _ {form : Form} {text counts : List ℕ} {first : FirstRefusal} {place : ℕ} (t : Sets) (left right : Element)
     (c : Counting form text counts first (onGround form t left right) place)

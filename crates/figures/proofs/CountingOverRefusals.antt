@@ -36,6 +36,7 @@ use Rattle.items.specs.States.{singleIn, Single, none, one, singleNumber, withi
 use Rattle.items.specs.Items.{Item, openingWord, itemAt}
 use Rattle.items.proofs.ItemsByBytes.{Stopped, refused-at, ends-inside-at, RefusedAt}
 use Rattle.figures.specs.Counting.{added, Counting, Counts, endAfter, figuresFrom}
+use Rattle.figures.specs.Stretches.{Searched}
 use Rattle.figures.proofs.RestToCount.{counting-starts, first-stays, counts-more, counts-no-more, all-figures}
 use Rattle.figures.proofs.CountingByItems.{CountingOn, stopped}
 
@@ -75,12 +76,6 @@ record Searching (form : Form) (text : List ℕ) (k : ℕ) (counts : List ℕ) (
   pub reader : Reader
   pub skipped : ℕ
   pub counting : Counting form text counts first (lost form reader k skipped) place
-
--- what is counted after the search
-abbrev pub Searched : Form → List ℕ → List ℕ → FirstRefusal → ℕ → Opening → Type 0
-Searched form text counts first place (Opening.Ends there) =
-    (place < there) × (there ≤ length text) × Counts form text startingCells (added counts instepWord 1) first there
-Searched form text counts first place Opening.Missing = figuresOf form text ≡ figuresFrom counts first EndWord.Lost
 
 module _ (form : Form) (r : Reader) (k n b : ℕ) where
   instep-answer : matchedWith form k b ≡ length (opening form) →
@@ -192,10 +187,10 @@ module _ {form : Form} {text cells counts : List ℕ} {first : FirstRefusal} {pl
       by (ends-inside-at there e x) = all-figures (x .holds .1) (omega (arith, x .at-end)) EndWord.Inside (x .end)
 
   -- its byte is refused
-  pub refused-counts : i .place < length text → {after : List ℕ} {n : Refusal} {now-first : FirstRefusal} {o : Opening} →
-      after ≡ added counts refusedWord 1 → n ≡ refusalOf (i .effect .value) → now-first ≡ firstOf first (First n (i .place)) →
-      o ≡ openingAfter form text (i .place) → Searched form text after now-first (i .place + 1) o
-  refused-counts before-end is-after is-refusal is-first is-opening = rw (is-opening, is-first, is-refusal, is-after) (by stops)
+  pub refused-counts : i .place < length text →
+      Searched form text (added counts refusedWord 1) (firstOf first (First (refusalOf (i .effect .value)) (i .place))) (i .place + 1)
+      (openingAfter form text (i .place))
+  refused-counts before-end = by stops
     where
       by : Stops →
           Searched form text (added counts refusedWord 1) (firstOf first (First (refusalOf (i .effect .value)) (i .place))) (i .place + 1)

@@ -4,3 +4,4 @@ pub mod CountingOverOpenings
 pub mod CountingOverRefusals
 pub mod RestToCount
 pub mod RunsCount
+pub mod StretchEnds

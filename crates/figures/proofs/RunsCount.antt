@@ -7,7 +7,7 @@ use mathlib.Core.List.{List}
 use mathlib.Core.Logic.{⊎-elim}
 use native.Mathlib.Nat.{eq-or-lt-of-le}
 use native.Mathlib.Omega.{arith}
-use borrow.Author.Tests.{le-leb, lt-leb, lt-ltb}
+use borrow.Author.Tests.{le-leb, lt-leb, lt-ltb, le-ltb, ltb-true}
 use lib.Dec.{leb, ltb}
 use lib.ListN.{length, getD, length-set}
 use Rattle.paper.specs.Choice.{_gives_or_}
@@ -20,14 +20,15 @@ use Rattle.lane.specs.Passing.{passes, byteAhead, blockAhead}
 use Rattle.lane.specs.Lanes.{laneOf, hasSpace, wordIn}
 use Rattle.lane.specs.Gaps.{gapAhead, hasGaps}
 use Rattle.lane.specs.declared.Lane.{Lane}
-use Rattle.lane.proofs.EachPasses.{block-inside, block-passes-each}
+use Rattle.lane.proofs.EachPasses.{both-true, block-inside, block-passes-each}
 use Rattle.lane.proofs.LaneItems.{LaneItem, control, space-sign, character, lane-item, word-above, word-below, word-of-space, less-or-not}
 use Rattle.lane.proofs.LettersPass.{letter-passes}
 use Rattle.lane.proofs.GapItems.{afterIn, afterSpace, gap-items}
 use Rattle.items.specs.States.{singleIn}
 use Rattle.items.specs.Letters.{isLetter}
-use Rattle.figures.specs.Counting.{added, upTo, Counts, GoesOn}
-use Rattle.figures.proofs.AddedCounts.{part, part-more, part-of-none, entry, tally, tally-is}
+use Rattle.figures.specs.Counting.{added, tally, Takes, upTo, Fits, Counts, GoesOn}
+use Rattle.figures.specs.Singly.{byteBefore}
+use Rattle.figures.proofs.AddedCounts.{part, part-more, part-of-none, entry, takes, tally-is}
 use Rattle.figures.proofs.CountingByItems.{in-state, item-counts, plain-counts}
 
 module _ (form : Form) (text cells : List ℕ) (ground : singleIn cells ≡ 0) where
@@ -61,17 +62,30 @@ module _ (form : Form) (text cells : List ℕ) (ground : singleIn cells ≡ 0) w
       let after-all : place + 2 + 1 ≡ place + 3 = omega arith in
       rw (← after-all) (in-state (g .same) (item-counts two (omega arith) (g .shift-out) (omega arith)))
 
--- a run goes on over its letter
-pub beyond : (form : Form) (cells : List ℕ) {lane : Lane} (text : List ℕ) (place here : ℕ) → place ≤ here → place < length text →
-    getD text place 0 < 0x100 → isLetter form cells (getD text place 0) ≡ true → lane ≡ laneOf form cells → byteAhead lane text here ≡ false →
-    place < here
+-- a letter passes
+pub letter-ahead : (form : Form) (cells : List ℕ) {lane : Lane} (text : List ℕ) (place : ℕ) → place < length text →
+    getD text place 0 < 0x100 → isLetter form cells (getD text place 0) ≡ true → lane ≡ laneOf form cells → byteAhead lane text place ≡ true
 unfolding byteAhead
-beyond form cells {lane} text place here from inside byte letter is out =
+letter-ahead form cells text place inside byte letter is =
+    rw (is, lt-ltb place (length text) inside, letter-passes form cells (getD text place 0) byte letter)
+
+-- a byte before an end that passes, and one that does not, which is not the first of so many if the first passes
+pub before-passes : (lane : Lane) (text : List ℕ) (here end : ℕ) → byteBefore lane text here end ≡ true →
+    (here < length text) × (passes lane (getD text here 0) ≡ true)
+unfolding byteBefore byteAhead
+before-passes lane text here end e =
+    let ahead = both-true (ltb here end) (byteAhead lane text here) e .1 in
+    let both = both-true (ltb here (length text)) (passes lane (getD text here 0)) ahead in
+    (ltb-true here (length text) (both .0), both .1)
+
+pub past-the-first : (lane : Lane) (text : List ℕ) (place here many : ℕ) → 0 < many → place ≤ here →
+    byteBefore lane text here (place + many) ≡ false → byteAhead lane text place ≡ true → place < here
+unfolding byteBefore
+past-the-first lane text place here many some from out ahead =
     ⊎-elim
     (λ (same : place ≡ here).
-    let pass = letter-passes form cells (getD text place 0) byte letter in
-    let ahead : byteAhead lane text place ≡ true = rw (is, lt-ltb place (length text) inside, pass) in
-    impossible (cc (out, ahead, same)))
+    let there : byteBefore lane text place (place + many) ≡ true = rw (lt-ltb place (place + many) (omega arith), ahead) in
+    impossible (cc (out, there, same)))
     (λ less. less)
     (eq-or-lt-of-le from)
 
@@ -183,7 +197,7 @@ module _ (spaced : Bool) (text counts : List ℕ) (place : ℕ) (words : length 
         part-more charWord (n - low) (o .other) w,
       ))
 
--- ---- a run of blocks
+-- ---- a run
 
 -- so many bytes, which all pass: how many are controls, and how many are controls or 2/0
 pub record Passed (lane : Lane) (text : List ℕ) (place here controls low : ℕ) : Type 0 where
@@ -199,6 +213,65 @@ pub passed-most : {lane : Lane} {text : List ℕ} {place here controls low : ℕ
 passed-most {text = text} {place} p =
     let h = up-to-in-order text place (p .many) in
     (omega (arith, p .controls-are, p .low-are), omega (arith, p .at, p .low-are), omega (arith, p .at, p .inside))
+
+-- what they take of the counts
+pub passed-takes : {lane : Lane} {text counts : List ℕ} {place here controls low : ℕ} → Fits text counts place →
+    Passed lane text place here controls low → (controls ≤ low) × (low ≤ here - place) × Takes counts (here - place)
+passed-takes f p =
+    let m = passed-most p in (m .0, omega (arith, m .1), takes f (omega (arith, m .1, m .2)))
+
+pub none-passed : (lane : Lane) (text : List ℕ) (place : ℕ) → place ≤ length text → Passed lane text place place 0 0
+none-passed lane text place within = record {
+  many = 0;
+  at = omega arith;
+  inside = omega arith;
+  controls-are = refl;
+  low-are = refl;
+  pass = λ k h. absurd (omega arith);
+}
+
+-- with one byte more
+passed-on : {lane : Lane} {text : List ℕ} {place here controls low : ℕ} → Passed lane text place here controls low → here < length text →
+    passes lane (getD text here 0) ≡ true → {controls-now low-now : ℕ} → controls-now ≡ controls + bit (space - 1) (getD text here 0) →
+    low-now ≡ low + bit space (getD text here 0) → Passed lane text place (here + 1) controls-now low-now
+passed-on {lane} {text} {place} {here} p inside passed controls-is low-is = record {
+  many = suc (p .many);
+  at = omega (arith, p .at);
+  inside = omega (arith, p .at, inside);
+  controls-are = one-more (space - 1) (p .controls-are) controls-is;
+  low-are = one-more space (p .low-are) low-is;
+  pass = λ k h.
+      ⊎-elim
+      (λ before. p .pass k before)
+      (λ after. let there : here ≡ place + k = omega (arith, p .at) in rw (← there) passed)
+      (less-or-not k (p .many));
+}
+  where
+    one-more : (bound : ℕ) {x y : ℕ} → x ≡ upTo bound text place (p .many) → y ≡ x + bit bound (getD text here 0) →
+        y ≡ upTo bound text place (suc (p .many))
+    one-more bound e f = rw (f, e, ← p .at)
+
+pub letter-more : {lane : Lane} {text : List ℕ} {place here controls low : ℕ} → Passed lane text place here controls low →
+    here < length text → passes lane (getD text here 0) ≡ true → space < getD text here 0 → Passed lane text place (here + 1) controls low
+letter-more {text = text} {here = here} p inside passed high =
+    let b : ℕ = getD text here 0 in
+    let no-control : bit (space - 1) b ≡ 0 = rw (lt-leb b (space - 1) (omega arith)) in
+    let not-low : bit space b ≡ 0 = rw (lt-leb b space high) in
+    passed-on p inside passed (omega (arith, no-control)) (omega (arith, not-low))
+
+pub low-more : {lane : Lane} {text : List ℕ} {place here controls low : ℕ} → Passed lane text place here controls low →
+    here < length text → passes lane (getD text here 0) ≡ true → getD text here 0 ≤ space → {more : ℕ} →
+    more ≡ (ltb (getD text here 0) space gives 1 or 0) → Passed lane text place (here + 1) (controls + more) (low + 1)
+low-more {text = text} {here = here} p inside passed few is =
+    let b : ℕ = getD text here 0 in
+    let is-low : bit space b ≡ 1 = rw (le-leb b space few) in
+    passed-on p inside passed (rw (is, ⊎-elim below not-below (less-or-not b space))) (omega (arith, is-low))
+  where
+    below : getD text here 0 < space → (ltb (getD text here 0) space gives 1 or 0) ≡ bit (space - 1) (getD text here 0)
+    below less = rw (lt-ltb (getD text here 0) space less, le-leb (getD text here 0) (space - 1) (omega arith))
+
+    not-below : space ≤ getD text here 0 → (ltb (getD text here 0) space gives 1 or 0) ≡ bit (space - 1) (getD text here 0)
+    not-below from = rw (le-ltb (getD text here 0) space from, lt-leb (getD text here 0) (space - 1) (omega arith))
 
 up-to-on : (bound : ℕ) (text : List ℕ) (place m n : ℕ) →
     upTo bound text place (m + n) ≡ upTo bound text place m + upTo bound text (place + m) n

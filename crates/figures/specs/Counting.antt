@@ -25,6 +25,15 @@ use Rattle.items.specs.States.{Stands}
 abbrev pub added : List ℕ → ℕ → ℕ → List ℕ
 added counts w n = set counts w (getD counts w 0 + n)
 
+-- controls, 2/0 by its word, and other characters
+abbrev pub tally : List ℕ → ℕ → ℕ → ℕ → ℕ → List ℕ
+tally counts spaces c s o = added (added (added counts controlWord c) spaces s) charWord o
+
+-- there is a count for each word, and room in each for so many more
+pub record Takes (counts : List ℕ) (more : ℕ) : Type 0 where
+  pub words : length counts ≡ instepWord + 1
+  pub bounded : (w : ℕ) → getD counts w 0 + more ≤ longestText
+
 -- of so many bytes from a place on, those that are at most a bound
 abbrev pub upTo : ℕ → List ℕ → ℕ → ℕ → ℕ
 upTo bound text place zero = 0

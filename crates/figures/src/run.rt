@@ -18,7 +18,7 @@ use lane::gap_ahead;
 use lane::has_gaps;
 use lane::lane_of;
 use paper::Form;
-ghost use Prim.Native.Nat.{ℕ, _+_, _*_, _≤_, _<_};
+ghost use Prim.Native.Nat.{ℕ, _+_, _-_, _*_, _≤_, _<_};
 ghost use mathlib.Core.Path.{_≡_};
 ghost use mathlib.Core.Bool.{true};
 ghost use mathlib.Core.List.{List};
@@ -30,10 +30,12 @@ ghost use Rattle.paper.specs.declared.FirstRefusal.{FirstRefusal};
 ghost use Rattle.items.specs.States.{singleIn};
 ghost use Rattle.items.specs.Letters.{isLetter};
 ghost use Rattle.lane.specs.Lanes.{laneOf, hasSpace, wordIn};
-ghost use Rattle.figures.specs.Counting.{added, upTo, Fits, Counts, GoesOn};
+ghost use Rattle.lane.specs.Passing.{byteAhead};
+ghost use Rattle.figures.specs.Counting.{added, tally, Takes, upTo, Fits, Counts, GoesOn};
+ghost use Rattle.figures.specs.Singly.{byteBefore};
 
-// How many bytes of a run are counted one by one before blocks are tried: most words are shorter.
-const SINGLY: usize = 12;
+// How many bytes of a run are counted one by one before blocks are tried: most words, and most names of dealers, are shorter.
+const SINGLY: usize = 24;
 
 // Whether 2/0 is SPACE.
 fn has_space(state: &[u8; CELLS]) -> bool
@@ -83,7 +85,17 @@ pub(crate) fn add(counts: &mut [usize], word: u8, more: usize)
     counts[word as usize] += more;
 }
 
-// Blocks of the lane from a place on, whose low bytes are controls and 2/0: the place after them.
+// What passed the lane: so many controls, so many low bytes, which are controls and 2/0, and so many bytes in all.
+fn add_passed(space: bool, controls: usize, low: usize, all: usize, counts: &mut [usize])
+    requires { ⌜ (controls ≤ low) × (low ≤ all) × Takes (now counts) all ⌝ }
+    ensures { λ _. ⌜ now (counts .exit) ≡ tally (now (counts .entry)) (wordIn space 32) controls (low - controls) (all - low) ⌝ }
+{
+    add(counts, CONTROL_WORD, controls);
+    add(counts, word_of(space, SPACE), low - controls);
+    add(counts, CHAR_WORD, all - low);
+}
+
+// Blocks of the lane from a place on: the place after them.
 fn count_blocks(lane: Lane, space: bool, text: &[u8], place: usize, counts: &mut [usize]) -> usize
     requires { ⌜ Fits (now text) (now counts) place ⌝ }
     ensures { λ r. ⌜ place ≤ r ⌝ }
@@ -104,13 +116,52 @@ fn count_blocks(lane: Lane, space: bool, text: &[u8], place: usize, counts: &mut
         low += up_to(SPACE, text, here) as usize;
         here += BLOCK;
     }
-    add(counts, CONTROL_WORD, controls);
-    add(counts, word_of(space, SPACE), low - controls);
-    add(counts, CHAR_WORD, here - place - low);
+    add_passed(space, controls, low, here - place, counts);
     here
 }
 
-// A run from a letter on, byte by byte at first, since many runs are words: the place after it.
+// Whether the byte at a place before an end passes.
+fn byte_before(lane: Lane, text: &[u8], place: usize, end: usize) -> bool
+    ensures { λ r. ⌜ r ≡ byteBefore lane (now (text .entry)) place end ⌝ }
+{
+    if place < end {
+        byte_ahead(lane, text, place)
+    } else {
+        false
+    }
+}
+
+// Bytes of the lane from a place on, one by one, since many runs are words: the place after them.
+fn count_singly(lane: Lane, space: bool, text: &[u8], place: usize, counts: &mut [usize]) -> usize
+    requires { ⌜ Fits (now text) (now counts) place ⌝ }
+    ensures { λ r. ⌜ (place ≤ r) × (byteAhead lane (now (text .entry)) place ≡ true → place < r) ⌝ }
+    ensures { λ r. ⌜
+        ((form : Form) →
+        (cells : List ℕ) →
+        singleIn cells ≡ 0 →
+        lane ≡ laneOf form cells →
+        space ≡ hasSpace cells →
+        GoesOn form (now (text .entry)) cells (now (counts .entry)) place (now (counts .exit)) r)
+        ⌝ }
+{
+    let mut here = place;
+    let mut controls: usize = 0;
+    let mut low: usize = 0;
+    while byte_before(lane, text, here, place + SINGLY) {
+        let byte = text[here];
+        if SPACE < byte {
+            here += 1;
+        } else {
+            controls += one_if(byte < SPACE) as usize;
+            low += 1;
+            here += 1;
+        }
+    }
+    add_passed(space, controls, low, here - place, counts);
+    here
+}
+
+// A run from a letter on, in blocks where it is long: the place after it.
 pub(crate) fn count_run(
     form: Form,
     state: &[u8; CELLS],
@@ -127,28 +178,22 @@ pub(crate) fn count_run(
     let space = has_space(state);
     let gaps = has_gaps(state);
     let mut here = place;
-    let mut start = place;
     while here < text.len() {
-        if byte_ahead(lane, text, here) {
-            if here - start == SINGLY {
-                return count_blocks(lane, space, text, here, counts);
-            }
-            let word = word_of(space, text[here]);
-            add(counts, word, 1);
-            here += 1;
-        } else {
-            if !gaps {
-                return here;
-            }
-            if !gap_ahead(text, here) {
-                return here;
-            }
-            add(counts, SHIFT_WORD, 1);
-            add(counts, SPACE_WORD, 1);
-            add(counts, SHIFT_WORD, 1);
-            here += 3;
-            start = here;
+        let start = here;
+        here = count_singly(lane, space, text, start, counts);
+        if here == start + SINGLY {
+            return count_blocks(lane, space, text, here, counts);
         }
+        if !gaps {
+            return here;
+        }
+        if !gap_ahead(text, here) {
+            return here;
+        }
+        add(counts, SHIFT_WORD, 1);
+        add(counts, SPACE_WORD, 1);
+        add(counts, SHIFT_WORD, 1);
+        here += 3;
     }
     here
 }
