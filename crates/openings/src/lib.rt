@@ -46,7 +46,7 @@ pub fn opening_length(form: Form) -> u8
     }
 }
 
-// The bytes that follow in each form.
+// The bytes that follow in each form, in which the forms differ.
 fn end_at(form: Form, place: u8) -> u8
     ensures { λ r. ⌜ r ≡ endAt form place ⌝ }
 {
@@ -136,7 +136,7 @@ fn eight_at(bytes: &[u8], place: usize) -> u64
     four_at(bytes, place) + four_at(bytes, place + 4) * 0x100000000
 }
 
-// Whether those that follow in each form do.
+// Whether the bytes in which the forms differ stand at a place of a text.
 fn end_ahead(form: Form, text: &[u8], place: usize) -> bool
     requires { ⌜ place + length (openingEnd form) ≤ length (now text) ⌝ }
     ensures { λ r. ⌜ r ≡ beginsWith (drop place (now (text .entry))) (openingEnd form) ⌝ }

@@ -10,13 +10,13 @@ use lib.ListN.{length}
 use Rattle.paper.specs.Choice.{_gives_or_}
 use Rattle.paper.specs.Words.{Form, Standing, Reader}
 use Rattle.paper.specs.Starting.{started, opening}
-use Rattle.paper.specs.Searching.{endsWith, matchedWith}
-use Rattle.paper.specs.Marks.{isComplete, isInStep, isMark}
+use Rattle.paper.specs.Searching.{endsWith}
+use Rattle.paper.specs.Marks.{isComplete, goneWith, isInStep, isMark}
 use Rattle.paper.specs.Texts.{readerAfter, sinceInStep}
 use Rattle.paper.proofs.LawfulAnswers.{form-after}
 use Rattle.paper.proofs.ListsThatEnd.{Longest}
 use Rattle.paper.proofs.BeginningsByteByByte.{complete, not-yet}
-use Rattle.paper.proofs.RecordsOfOpenings.{matched-now}
+use Rattle.paper.proofs.RecordsOfOpenings.{gone-now}
 use Rattle.paper.proofs.ReadersThatTextsLeadTo.{KeptIn, Reached, reached}
 
 -- the longest beginning is all of the opening exactly where the bytes end with it
@@ -37,9 +37,9 @@ by-the-record : (since : List ℕ) (r : Reader) (b : ℕ) → Reached since r �
 by-the-record since r b h = by (r .standing) (h .keeps)
   where
     by : (s : Standing) → KeptIn (r .form) since s (r .gone) →
-        (isInStep s gives isComplete (r .form) (matchedWith (r .form) (r .gone) b) or false) ≡ standsThere (r .form) s since b
+        (isInStep s gives isComplete (r .form) (goneWith r b) or false) ≡ standsThere (r .form) s since b
     by (Standing.InStep w) noted =
-        complete-where (r .form) (since ++ (b ∷ [])) (matchedWith (r .form) (r .gone) b) (matched-now (r .form) since (r .gone) b noted)
+        complete-where (r .form) (since ++ (b ∷ [])) (goneWith r b) (gone-now r since b noted)
     by (Standing.Lost k n) search = refl
 
 pub mark-where-an-opening-ends : (form : Form) (text : List ℕ) (next : ℕ) →

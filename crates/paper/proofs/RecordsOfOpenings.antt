@@ -9,10 +9,10 @@ use native.Mathlib.Omega.{arith}
 use borrow.Author.Tests.{eqb-true, eq-eqb}
 use lib.ListN.{length}
 use Rattle.paper.specs.Choice.{_gives_or_}
-use Rattle.paper.specs.Words.{Form, Seven, Eight}
+use Rattle.paper.specs.Words.{Form, Seven, Eight, Reader}
 use Rattle.paper.specs.Starting.{opening}
 use Rattle.paper.specs.Searching.{matchedWith}
-use Rattle.paper.specs.Marks.{isComplete, unlessComplete}
+use Rattle.paper.specs.Marks.{isComplete, goneWith, unlessComplete}
 use Rattle.paper.proofs.ListsThatEnd.{tail-ends, Longest}
 use Rattle.paper.proofs.BeginningsByteByByte.{next-longest, complete, none-seen}
 use Rattle.paper.proofs.BeginningsThatFallBack.{matched, without, falls-back}
@@ -50,6 +50,11 @@ module _ (m : Form) (since : List ℕ) (k b : ℕ) (now : Noted m since k) where
 
   pub noted-on : Noted m (since ++ (b ∷ [])) (unlessComplete m (matchedWith m k b))
   noted-on = record { long = matchedWith m k b; longest = matched-now; is = refl }
+
+-- so what has gone by with a byte is the longest beginning with which the bytes end, this one counted
+pub gone-now : (r : Reader) (since : List ℕ) (b : ℕ) → Noted (r .form) since (r .gone) →
+    Longest (opening (r .form)) (since ++ (b ∷ [])) (length (opening (r .form))) (goneWith r b)
+gone-now r since b now = matched-now (r .form) since (r .gone) b now
 
 none-is-none : (m : Form) → _≡_ {A = ℕ} 0 (unlessComplete m 0)
 none-is-none Seven = refl
