@@ -27,7 +27,7 @@ use Rattle.lane.proofs.GapItems.{afterIn, afterSpace, gap-items}
 use Rattle.items.specs.States.{singleIn}
 use Rattle.items.specs.Letters.{isLetter}
 use Rattle.figures.specs.Counting.{added, tally, Takes, upTo, Fits, Counts, GoesOn}
-use Rattle.figures.specs.Singly.{byteBefore}
+use Rattle.figures.specs.Runs.{byteBefore, LaneGoesOn}
 use Rattle.figures.proofs.AddedCounts.{part, part-more, part-of-none, entry, takes, tally-is}
 use Rattle.figures.proofs.CountingByItems.{in-state, item-counts, plain-counts}
 
@@ -328,3 +328,10 @@ module _ (form : Form) (text cells : List ℕ) (ground : singleIn cells ≡ 0) {
       (upTo space text place n - upTo (space - 1) text place n) (n - upTo space text place n) (known-word spaced space)
       (oneByOne spaced text counts place n) (eleven spaced text counts place words n) (entries spaced text counts place words n) in
       rw (p .at, p .controls-are, p .low-are, all, ← same) (by-bytes is n (p .inside) (p .pass) first c)
+
+-- so many bytes that pass are counted at once
+pub lane-goes-on : {lane : Lane} {spaced : Bool} {text counts after : List ℕ} {place here controls low : ℕ} →
+    Passed lane text place here controls low → after ≡ tally counts (wordIn spaced space) controls (low - controls) (here - place - low) →
+    LaneGoesOn lane spaced text counts place after here
+lane-goes-on {text = text} p is-after form cells ground is-lane is-space first c =
+    rw (is-after, is-space) (blocks-count form text cells ground is-lane p first c)

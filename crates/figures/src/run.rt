@@ -18,21 +18,19 @@ use lane::gap_ahead;
 use lane::has_gaps;
 use lane::lane_of;
 use paper::Form;
-ghost use Prim.Native.Nat.{ℕ, _+_, _-_, _*_, _≤_, _<_};
+ghost use Prim.Native.Nat.{_+_, _-_, _*_, _≤_, _<_};
 ghost use mathlib.Core.Path.{_≡_};
 ghost use mathlib.Core.Bool.{true};
-ghost use mathlib.Core.List.{List};
 ghost use lib.ListN.{length, getD};
 ghost use Rattle.paper.specs.Choice.{_gives_or_};
 ghost use Rattle.paper.specs.Refusals.{longestText};
 ghost use Rattle.paper.specs.declared.Form.{Form};
 ghost use Rattle.paper.specs.declared.FirstRefusal.{FirstRefusal};
-ghost use Rattle.items.specs.States.{singleIn};
 ghost use Rattle.items.specs.Letters.{isLetter};
-ghost use Rattle.lane.specs.Lanes.{laneOf, hasSpace, wordIn};
+ghost use Rattle.lane.specs.Lanes.{hasSpace, wordIn};
 ghost use Rattle.lane.specs.Passing.{byteAhead};
 ghost use Rattle.figures.specs.Counting.{added, tally, Takes, upTo, Fits, Counts, GoesOn};
-ghost use Rattle.figures.specs.Singly.{byteBefore};
+ghost use Rattle.figures.specs.Runs.{byteBefore, LaneGoesOn};
 
 // How many bytes of a run are counted one by one before blocks are tried: most words, and most names of dealers, are shorter.
 const SINGLY: usize = 24;
@@ -99,14 +97,7 @@ fn add_passed(space: bool, controls: usize, low: usize, all: usize, counts: &mut
 fn count_blocks(lane: Lane, space: bool, text: &[u8], place: usize, counts: &mut [usize]) -> usize
     requires { ⌜ Fits (now text) (now counts) place ⌝ }
     ensures { λ r. ⌜ place ≤ r ⌝ }
-    ensures { λ r. ⌜
-        ((form : Form) →
-        (cells : List ℕ) →
-        singleIn cells ≡ 0 →
-        lane ≡ laneOf form cells →
-        space ≡ hasSpace cells →
-        GoesOn form (now (text .entry)) cells (now (counts .entry)) place (now (counts .exit)) r)
-        ⌝ }
+    ensures { λ r. ⌜ LaneGoesOn lane space (now (text .entry)) (now (counts .entry)) place (now (counts .exit)) r ⌝ }
 {
     let mut here = place;
     let mut controls: usize = 0;
@@ -135,14 +126,7 @@ fn byte_before(lane: Lane, text: &[u8], place: usize, end: usize) -> bool
 fn count_singly(lane: Lane, space: bool, text: &[u8], place: usize, counts: &mut [usize]) -> usize
     requires { ⌜ Fits (now text) (now counts) place ⌝ }
     ensures { λ r. ⌜ (place ≤ r) × (byteAhead lane (now (text .entry)) place ≡ true → place < r) ⌝ }
-    ensures { λ r. ⌜
-        ((form : Form) →
-        (cells : List ℕ) →
-        singleIn cells ≡ 0 →
-        lane ≡ laneOf form cells →
-        space ≡ hasSpace cells →
-        GoesOn form (now (text .entry)) cells (now (counts .entry)) place (now (counts .exit)) r)
-        ⌝ }
+    ensures { λ r. ⌜ LaneGoesOn lane space (now (text .entry)) (now (counts .entry)) place (now (counts .exit)) r ⌝ }
 {
     let mut here = place;
     let mut controls: usize = 0;

@@ -1,7 +1,7 @@
 -- The test is that of `byteBefore`.
 use borrow.Author.Needs.{needs}
 use borrow.Author.Tests.{lt-ltb, le-ltb}
-use Rattle.figures.specs.Singly.{byteBefore}
+use Rattle.figures.specs.Runs.{byteBefore}
 use Rattle.figures.proofs.run.byte_before.Statement.{statement}
 use Rattle.figures.proofs.run.byte_before.Tie as tie
 

@@ -7,7 +7,7 @@ use borrow.Author.Needs.{needs}
 use lib.ListN.{length}
 use Rattle.paper.specs.Refusals.{longestText}
 use Rattle.lane.proofs.EachPasses.{block-inside}
-use Rattle.figures.proofs.RunsCount.{Passed, passed-most, passed-takes, none-passed, block-more, blocks-count}
+use Rattle.figures.proofs.RunsCount.{Passed, passed-most, passed-takes, none-passed, block-more, lane-goes-on}
 use Rattle.figures.proofs.run.count_blocks.Statement.{statement}
 use Rattle.figures.proofs.run.count_blocks.Tie as tie
 
@@ -34,9 +34,7 @@ returns : tie.Need-returns Inv-loop μ-loop
 returns c =
     let l = c .before .before .before .before .before .before in (
       omega (arith, most l),
-      λ form cells ground is-lane is-space first counted.
-          rw (c .before .before .add-passed .ensures, is-space)
-          (blocks-count form _ cells ground is-lane (l .loop .inv) first counted),
+      lane-goes-on (l .loop .inv) (c .before .before .add-passed .ensures),
     )
 
 pub count-blocks-spec : {M : Type 1} → statement M

@@ -8,7 +8,7 @@ use lib.ListN.{length, getD}
 use Rattle.paper.specs.Refusals.{longestText}
 use Rattle.lane.specs.Passing.{passes}
 use Rattle.figures.proofs.RunsCount.{before-passes, past-the-first, Passed, passed-most, passed-takes, none-passed}
-use Rattle.figures.proofs.RunsCount.{letter-more, low-more, blocks-count}
+use Rattle.figures.proofs.RunsCount.{letter-more, low-more, lane-goes-on}
 use Rattle.figures.proofs.run.count_singly.Statement.{statement}
 use Rattle.figures.proofs.run.count_singly.Tie as tie
 
@@ -42,9 +42,7 @@ returns c =
     let l = c .before .before .before .before .before .before in
     let stop = c .before .before .before .before in (
       (omega (arith, most l), past-the-first _ _ _ _ _ (omega arith) (omega (arith, most l)) (sym (stop .before .byte-before .ensures) ∙ stop .if1 .left)),
-      λ form cells ground is-lane is-space first counted.
-          rw (c .before .before .add-passed .ensures, is-space)
-          (blocks-count form _ cells ground is-lane (l .loop .inv) first counted),
+      lane-goes-on (l .loop .inv) (c .before .before .add-passed .ensures),
     )
 
 pub count-singly-spec : {M : Type 1} → statement M
