@@ -24,7 +24,6 @@ ghost use mathlib.Core.Bool.{true};
 ghost use lib.ListN.{length, getD};
 ghost use Rattle.paper.specs.Choice.{_gives_or_};
 ghost use Rattle.paper.specs.Refusals.{longestText};
-ghost use Rattle.paper.specs.declared.Form.{Form};
 ghost use Rattle.paper.specs.declared.FirstRefusal.{FirstRefusal};
 ghost use Rattle.items.specs.Letters.{isLetter};
 ghost use Rattle.lane.specs.Lanes.{hasSpace, wordIn};
