@@ -41,11 +41,12 @@ count-on n = by (leb n mostSkipped) refl (leb (n + 1) mostSkipped) refl
 
 -- ---- a lost reader
 
--- what a lost reader keeps of the bytes since the refused one; it has recorded nothing
+-- what a lost reader keeps of the bytes since the refused one
 pub record Kept (m : Form) (seen : List ℕ) (k n : ℕ) : Type 0 where
   pub matched : Longest (opening m) seen (length (opening m)) k
   pub counted : n ≡ skippedBytes (length seen)
 
+-- it has recorded nothing of an opening
 abbrev pub lost : Reader → ℕ → ℕ → Reader
 lost r k n = standingAt (Standing.Lost k n) (recording 0 r)
 

@@ -175,7 +175,15 @@ conversionExamples =
       returned = 0 ∷ 0 ∷ 22 ∷ [];
       buffer = inEight ++ (0x41 ∷ []);
     } ∷
-    -- after a text that showed G1 in GL, in both directions
+    -- after a text that showed G1 in GL, in both directions, and after a character of GR
+    record {
+      from = Eight;
+      to = Seven;
+      bytes = 0x0E ∷ 0x41 ∷ (inEight ++ (0x41 ∷ []));
+      room = 23;
+      returned = 0 ∷ 0 ∷ 23 ∷ [];
+      buffer = 0x0E ∷ 0x41 ∷ (inSeven ++ (0x41 ∷ []));
+    } ∷
     record {
       from = Eight;
       to = Seven;

@@ -21,11 +21,11 @@ isComplete m k = eqb k (length (opening m))
 abbrev pub goneWith : Reader → ℕ → ℕ
 goneWith r b = matchedWith (r .form) (r .gone) b
 
--- a byte is a mark: the opening is complete with it, and the reader is in step before it
 abbrev pub isInStep : Standing → Bool
 isInStep (Standing.InStep w) = true
 isInStep (Standing.Lost j n) = false
 
+-- a byte is a mark: the opening is complete with it, and the reader is in step before it
 abbrev pub isMark : Reader → ℕ → Bool
 isMark r b = isInStep (r .standing) gives isComplete (r .form) (goneWith r b) or false
 

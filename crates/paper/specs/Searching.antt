@@ -1,6 +1,6 @@
 -- What the search of a lost reader is made of: whether bytes end with others, and what a reader keeps of the bytes since the
 -- refused one, which is how much of the opening they end with and how many they are. The search itself, as the paper says it,
--- is `searched` in Texts.
+-- is `searched` in Texts. A reader in step keeps how much of the opening has gone by in the same way (Marks).
 use Prim.Native.Nat.{ℕ, zero, suc, _+_, _-_}
 use mathlib.Core.Bool.{Bool, true, false}
 use mathlib.Core.List.{List, [], _∷_, _++_}

@@ -1,6 +1,7 @@
 -- What a text gives: folds over its bytes from a reader; and openings in it.
 use Prim.Native.Nat.{ℕ, suc, _+_}
 use mathlib.Core.Path.{_≡_}
+use mathlib.Core.Bool.{Bool, true, false}
 use mathlib.Core.List.{List, [], _∷_, _++_}
 use lib.Dec.{eqb}
 use lib.ListN.{length}
@@ -40,6 +41,12 @@ answerAfter m text b = answerTo (readerAfter (started m) text) b .answer
 abbrev pub later : ℕ → List Placed → List Placed
 later n [] = []
 later n (a ∷ l) = record { offset = n + a .offset; answer = a .answer } ∷ later n l
+
+-- a text that ends lost
+abbrev pub isLost : EndWord → Bool
+isLost EndWord.Whole = false
+isLost EndWord.Inside = false
+isLost EndWord.Lost = true
 
 -- the bytes since the start, or since the latest instep
 abbrev pub sinceWith : Answer → List ℕ → ℕ → List ℕ

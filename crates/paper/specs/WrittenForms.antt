@@ -1,5 +1,5 @@
 -- The two written forms. A writer writes the sequence of a text anew. The forms differ in C1 functions, of which the single shifts
--- are two, in the area that a character comes from, and in the locking shifts before it; all else is written alike.
+-- are two, in the area that a character comes from, in the locking shifts before it, and at a mark; all else is written alike.
 use Prim.Native.Nat.{ℕ, _+_, _%_}
 use mathlib.Core.Bool.{Bool, false}
 use mathlib.Core.List.{List, [], _∷_, _++_, map}
@@ -165,7 +165,7 @@ lockingInSeven w (Answer.Refused r) = none
 lockingInSeven w Answer.Skipped = none
 lockingInSeven w (Answer.InStep n) = none
 
--- 8-bit: no locking shift is written
+-- 8-bit: before an answer no locking shift is written
 abbrev pub locking : Form → Writer → Answer → Locking
 locking Seven w a = lockingInSeven w a
 locking Eight w a = none
