@@ -27,7 +27,7 @@ abbrev pub stopsBy : Effect → ℕ → ℕ → Ending
 stopsBy e place at =
     eqb (e .word .0) refusedWord gives Ending.Over (Converted.Refused (refusalOf (e .value)) place) or Ending.Opens place at
 
--- an opening is behind the place at which the stretch began
+-- the place after the opening lies after the one at which the stretch began
 abbrev pub Onward : ℕ → Ending → Type 0
 Onward place (Ending.Opens next before) = place < next
 Onward place (Ending.Over answer) = Unit {0}
@@ -38,6 +38,7 @@ Promised m to text lent answer buffer =
     (answer ≡ passedBy (refusalIn m text) (length (output m to text))) ×
     (Accepted m text → length (output m to text) ≤ length lent → buffer ≡ over (output m to text) lent)
 
+-- after an opening: any buffer as long as this one, with the opening in it where there is room
 abbrev pub Ends : Form → Form → List ℕ → List ℕ → Ending → List ℕ → Type 0
 Ends m to text lent (Ending.Opens next before) buffer =
     (after : List ℕ) → length after ≡ length buffer →

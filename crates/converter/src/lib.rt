@@ -82,5 +82,6 @@ fn pass(form: Form, to: Form, text: &[u8], buffer: &mut [u8]) -> Converted
             }
         }
     }
+    // an empty text, or one that ends with an opening
     Converted::Done(at)
 }

@@ -338,10 +338,10 @@ pub(crate) fn copy_run(
     let gaps = has_gaps(to, state, byte);
     let mut here = place;
     let mut put = at;
-    let mut tried = place + BLOCK;
+    let mut blocks_at = place + BLOCK;
     while here < text.len() {
         if byte_ahead(lane, text, here) {
-            if here == tried {
+            if here == blocks_at {
                 let end = copy_blocks(way, text, here, buffer, put);
                 return run_to(end, put + (end - here));
             }
@@ -358,7 +358,7 @@ pub(crate) fn copy_run(
             let gap = over_gap(to, text, here, buffer, put);
             here = gap.place;
             put = gap.at;
-            tried = here + BLOCK;
+            blocks_at = here + BLOCK;
         }
     }
     run_to(here, put)

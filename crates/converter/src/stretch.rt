@@ -1,5 +1,5 @@
 // A stretch of a text, from its start or after an opening: read from the starting state, up to the next opening, a refusal or the end.
-// Openings are met between stretches, so that reading one costs nothing where there is none.
+// Openings are met between stretches, so that a text without them is not slowed by them.
 use crate::put::put_if_room;
 use crate::run::begins_run;
 use crate::run::copy_run;
@@ -34,7 +34,7 @@ ghost use Rattle.converter.specs.Passes.{atTheEnd};
 ghost use Rattle.converter.specs.Passing.{Passes};
 ghost use Rattle.converter.specs.Stretches.{stopsBy, Onward, Ends};
 
-// How a stretch ends: with an opening, whose next place and the output's length before it are known; or with the text's answer.
+// How a stretch ends: with an opening, by the place after it and the output's length before it; or with the text's answer.
 pub(crate) enum Ending {
     Opens { next: usize, before: usize },
     Over(Converted),
@@ -110,6 +110,7 @@ pub(crate) fn stretch(
             let item = read_item(form, &state, text, here);
             let effect = item.effect;
             let word = effect.word;
+            // the words from a refusal's on that an item can have here: a refusal, an opening
             if word.0 >= REFUSED_WORD {
                 return stops(effect, item.place, put);
             }

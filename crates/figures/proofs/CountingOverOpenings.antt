@@ -36,7 +36,7 @@ use Rattle.items.specs.States.{startingCells}
 use Rattle.items.specs.Items.{Item}
 use Rattle.items.proofs.ItemsByBytes.{Opens}
 use Rattle.figures.specs.Counting.{added, Fits, HasFigure, Counting, Counts}
-use Rattle.figures.specs.Stretches.{withOpening}
+use Rattle.figures.specs.Stretches.{openingCounted}
 use Rattle.figures.proofs.AddedCounts.{part, part-more, part-of-none, entry, fits-more}
 use Rattle.figures.proofs.RestToCount.{one-and}
 use Rattle.figures.proofs.CountingOverRefusals.{in-step-again}
@@ -188,14 +188,14 @@ module _ {form : Form} {text counts : List ℕ} {first : FirstRefusal} {place : 
   fits-designations : Fits text (added counts designateWord 6) (place + 6)
   fits-designations = fits-more (c .fits) designateWord 6 (omega arith) refl (omega (arith, inside, at-least-eight form))
 
-  fits-opening : Fits text (withOpening counts) there
+  fits-opening : Fits text (openingCounted counts) there
   fits-opening =
       let long = at-least-eight form in
       let within = inside in
       let f = fits-more fits-designations shiftWord 2 (omega arith) refl (omega arith) in
       record { short = f .short; within = within; words = f .words; bounded = λ w. omega (arith, f .bounded w) }
 
-  counts-opening : Counting form text (withOpening counts) first (started form) there
+  counts-opening : Counting form text (openingCounted counts) first (started form) there
   counts-opening = record {
     fits = fits-opening;
     in-form = refl;
@@ -216,7 +216,7 @@ module _ {form : Form} {text cells counts : List ℕ} {first : FirstRefusal} {pl
   pub opening-onward : place + 8 ≤ i .place
   opening-onward = omega (arith, ap (λ (x : Item). x .place) (o .is), at-least-eight form)
 
-  pub opening-counts : Counts form text startingCells (withOpening counts) first (i .place)
+  pub opening-counts : Counts form text startingCells (openingCounted counts) first (i .place)
   opening-counts =
       let r : Reader = c .reader in
       let ground : r ≡ onGround form (r .sets) (r .gl) (r .gr) =

@@ -34,16 +34,16 @@ Onward place (Ending.Opens next) = place < next
 Onward place (Ending.Stops number there) = place ≤ there
 Onward place (Ending.Over word) = Unit {0}
 
--- what an opening has
-abbrev pub withOpening : List ℕ → List ℕ
-withOpening counts = added (added counts designateWord 6) shiftWord 2
+-- an opening has six designations and two shifts
+abbrev pub openingCounted : List ℕ → List ℕ
+openingCounted counts = added (added counts designateWord 6) shiftWord 2
 
--- an opening is still to be counted
+-- an opening is still to be counted, and is not shorter than what is counted of it
 pub record BeforeOpening (form : Form) (text counts : List ℕ) (first : FirstRefusal) (next : ℕ) : Type 0 where
   pub here : ℕ
   pub fits : Fits text counts here
   pub far : here + 8 ≤ next
-  pub after : Counts form text startingCells (withOpening counts) first next
+  pub after : Counts form text startingCells (openingCounted counts) first next
 
 -- what is counted after the search
 abbrev pub Searched : Form → List ℕ → List ℕ → FirstRefusal → ℕ → Opening → Type 0

@@ -91,12 +91,12 @@ fn count(form: Form, text: &[u8]) -> Figures
     while place < text.len() {
         match stretch(form, text, place, &mut counts) {
             Ending::Over(word) => return figures_of(&counts, first, word),
-            Ending::Opens(next) => {
+            Ending::Opens { next } => {
                 add(&mut counts, DESIGNATE_WORD, DESIGNATIONS_OF_OPENING);
                 add(&mut counts, SHIFT_WORD, SHIFTS_OF_OPENING);
                 place = next;
             }
-            Ending::Stops(number, there) => {
+            Ending::Stops { number, there } => {
                 add(&mut counts, REFUSED_WORD, 1);
                 first = first_with(first, refusal_of(number), there);
                 match opening_after(form, text, there) {
@@ -109,5 +109,6 @@ fn count(form: Form, text: &[u8]) -> Figures
             }
         }
     }
+    // an empty text, or one that ends with an opening
     figures_of(&counts, first, EndWord::Whole)
 }

@@ -121,7 +121,7 @@ fn byte_before(lane: Lane, text: &[u8], place: usize, end: usize) -> bool
     }
 }
 
-// Bytes of the lane from a place on, one by one, since many runs are words: the place after them.
+// Bytes of the lane from a place on, one by one and at most so many, since most runs are words: the place after them.
 fn count_singly(lane: Lane, space: bool, text: &[u8], place: usize, counts: &mut [usize]) -> usize
     requires { ⌜ Fits (now text) (now counts) place ⌝ }
     ensures { λ r. ⌜ (place ≤ r) × (byteAhead lane (now (text .entry)) place ≡ true → place < r) ⌝ }

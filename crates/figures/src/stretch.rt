@@ -23,10 +23,10 @@ ghost use Rattle.items.specs.States.{startingCells};
 ghost use Rattle.figures.specs.Counting.{Counts, endAfter};
 ghost use Rattle.figures.specs.Stretches.{stopsBy, Onward, Ends};
 
-// How a stretch ends: with an opening and the place after it; with a refusal, its number and its place; or with the text.
+// How a stretch ends: with an opening, by the place after it; with a refusal, by its number and its place; or with the text.
 pub(crate) enum Ending {
-    Opens(usize),
-    Stops(u8, usize),
+    Opens { next: usize },
+    Stops { number: u8, there: usize },
     Over(EndWord),
 }
 
@@ -41,16 +41,19 @@ fn end_after(taken: ElementNumber) -> EndWord
     }
 }
 
-// At an item that ends a stretch of a text of this length: an opening, or a refusal, which is none where the text ends inside.
+// At an item that ends a stretch of a text of this length: an opening, a refusal, or the text ends inside, which is no answer.
 fn stops(effect: Effect, place: usize, length: usize) -> Ending
     ensures { λ r. ⌜ r ≡ stopsBy effect place length ⌝ }
 {
     let word = effect.word;
     if word.0 == OPENING_WORD {
-        return Ending::Opens(place);
+        return Ending::Opens { next: place };
     }
     if place < length {
-        Ending::Stops(effect.value, place)
+        Ending::Stops {
+            number: effect.value,
+            there: place,
+        }
     } else {
         Ending::Over(EndWord::Inside)
     }
@@ -80,6 +83,7 @@ pub(crate) fn stretch(form: Form, text: &[u8], place: usize, counts: &mut [usize
             let item = read_item(form, &state, text, here);
             let effect = item.effect;
             let word = effect.word;
+            // the words from a refusal's on that an item can have here: a refusal, an opening
             if word.0 >= REFUSED_WORD {
                 return stops(effect, item.place, text.len());
             }

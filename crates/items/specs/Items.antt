@@ -33,8 +33,8 @@ use Rattle.items.specs.Pieces.{bytesIn}
 use Rattle.items.specs.States.{singleIn, sizeIn, elementOf}
 use Rattle.items.specs.declared.item.Item as declared
 
--- what it does, its bytes, and the place after it. Of a character the value is its element and the bytes are its position bytes; the bytes
--- of all else are what it is written as in 8-bit form
+-- what it does, its bytes, and the place after it. Of a character the value is its element and the bytes are its position bytes; an opening
+-- has none; the bytes of all else are what it is written as in 8-bit form
 pub record Item : Type 0 where
   pub effect : Effect
   pub bytes : List ℕ

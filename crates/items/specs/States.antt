@@ -64,7 +64,7 @@ cellsOf r t left =
     0 ∷ 0 ∷ sizeOfSet (r .sets .g0) ∷ sizeOfSet (r .sets .g1) ∷ sizeOfSet (r .sets .g2) ∷ sizeOfSet (r .sets .g3) ∷
     elementNumber (r .gl) ∷ elementNumber (r .gr) ∷ singleNumber t ∷ left ∷ 0 ∷ 0 ∷ 0 ∷ 0 ∷ 0 ∷ 0 ∷ []
 
--- the reader beside them has recorded nothing of an opening: openings are taken whole
+-- the reader beside them is taken without its record of an opening: openings are taken whole
 pub record Stands (cells : List ℕ) (r : Reader) : Type 0 where
   pub single : Single
   pub left : ℕ

@@ -27,8 +27,9 @@ ghost use Rattle.paper.specs.CodeTable.{areaOf};
 ghost use Rattle.items.specs.Pieces.{bytesIn, Small};
 ghost use Rattle.items.specs.Items.{itemOf, characterOf, stopped, openingItem, isControl, itemAt};
 
-// What it does, its bytes, and the place after it. Of a character the value is its element, and the bytes are its position bytes; the
-// bytes of all else are what it is written as in 8-bit form. Of a refusal the value is its number, and the place its place.
+// What it does, its bytes, and the place after it. Of a character the value is its element, and the bytes are its position bytes; a shift
+// and an opening have none; the bytes of all else are what it is written as in 8-bit form. Of a refusal the value is its number, and the
+// place its place.
 pub struct Item {
     pub effect: Effect,
     pub piece: Piece,

@@ -36,6 +36,7 @@ use escapes::effect_of_function;
 use escapes::effect_of_none;
 use escapes::effect_of_one;
 use escapes::effect_of_two;
+use openings::BEFORE_FINAL;
 use openings::opening_length;
 use openings::rest_ahead;
 use paper::Form;
@@ -50,9 +51,6 @@ ghost use lib.ListN.{length};
 ghost use Rattle.items.specs.Pieces.{bytesIn, Small};
 ghost use Rattle.items.specs.Items.{itemOf, notOfSequence, bytesMeant, meantAt, severalBytesOf, afterTwo, afterOne, afterEscape};
 ghost use Rattle.items.specs.Items.{shifts, controlAt, openedOr, isOpening, afterOneOr};
-
-// How many bytes of an opening stand before the final of its first sequence.
-const BEFORE: usize = 2;
 
 // How many C1 functions there are.
 const FUNCTIONS: u8 = LAST_FUNCTION + 1;
@@ -161,7 +159,7 @@ fn after_one(form: Form, first: u8, text: &[u8], place: usize) -> Item
     }
     if byte <= LAST_FINAL {
         if is_opening(form, first, text, place) {
-            return opening(place - BEFORE + opening_length(form) as usize);
+            return opening(place - BEFORE_FINAL + opening_length(form) as usize);
         }
         let effect = effect_of_one(first, byte);
         return meant(effect, three(ESC, first, byte), place, place + 1);

@@ -1,5 +1,5 @@
--- How the search goes on without looking back: one byte more of the opening; or else what has begun again, which after an ESC
--- can be its first two bytes, and otherwise its first.
+-- How much of an opening has gone by with a byte more, without looking back, for the search and for the record of a reader in step: one
+-- byte more of it; or else what has begun again, which after an ESC can be its first two bytes, and otherwise its first.
 use Prim.Native.Nat.{ℕ, _+_, _-_}
 use lib.Dec.{ltb, eqb}
 use lib.ListN.{getD, length}

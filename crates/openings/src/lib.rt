@@ -1,4 +1,5 @@
-// The opening of each form: its bytes, how much of it has gone by with a byte more, and whether it stands at a place of a text.
+// The opening of each form: its bytes, how much of it has gone by with a byte more, whether it stands at a place of a text, and writing
+// it.
 use codetable::ESC;
 use codetable::SI;
 use codetable::SO;
@@ -15,6 +16,16 @@ ghost use Rattle.openings.specs.InBuffers.{withOpening};
 
 // How many bytes both openings begin with, and which.
 const COMMON: u8 = 18;
+
+// How many of them stand before the final of the first sequence.
+pub const BEFORE_FINAL: usize = 2;
+
+// So many bytes are compared at once, twice: where the second such number begins, and how many bytes both are.
+const AT_ONCE: usize = 8;
+
+const SECOND: usize = BEFORE_FINAL + AT_ONCE;
+
+const TWICE: usize = AT_ONCE + AT_ONCE;
 
 const OPENING_START: [u8; COMMON as usize] = [
     0x1B,
@@ -106,6 +117,7 @@ fn begun_at(form: Form, matched: u8, byte: u8) -> u8
 pub fn matched_with(form: Form, matched: u8, byte: u8) -> u8
     ensures { λ r. ⌜ r ≡ matchedWith form matched byte ⌝ }
 {
+    // most bytes come where nothing has gone by
     if matched == 0 {
         return begun(byte);
     }
@@ -160,17 +172,17 @@ pub fn rest_ahead(form: Form, text: &[u8], place: usize) -> bool
     if place > text.len() {
         return false;
     }
-    if text.len() - place < opening_length(form) as usize - 2 {
+    if text.len() - place < opening_length(form) as usize - BEFORE_FINAL {
         return false;
     }
     let start = OPENING_START;
-    if eight_at(text, place) != eight_at(&start, 2) {
+    if eight_at(text, place) != eight_at(&start, BEFORE_FINAL) {
         return false;
     }
-    if eight_at(text, place + 8) != eight_at(&start, 10) {
+    if eight_at(text, place + AT_ONCE) != eight_at(&start, SECOND) {
         return false;
     }
-    end_ahead(form, text, place + 16)
+    end_ahead(form, text, place + TWICE)
 }
 
 // Writes the bytes with which both forms begin.

@@ -36,8 +36,8 @@ pub fn read(reader: Reader, byte: u8) -> Answered
     let plain = recording(0, reader);
     match standing {
         Standing::InStep(within) => {
-            recorded(
-                gone_with(form, gone, byte),
+            recorded_in(
+                record_with(form, gone, byte),
                 answer_in_step(within, byte, plain),
             )
         }
@@ -48,8 +48,8 @@ pub fn read(reader: Reader, byte: u8) -> Answered
     }
 }
 
-// How much of the opening has gone by with a byte; nothing after a mark.
-fn gone_with(form: Form, gone: u8, byte: u8) -> u8
+// What is recorded with a byte: how much of the opening has gone by, and nothing after a mark.
+fn record_with(form: Form, gone: u8, byte: u8) -> u8
     ensures { λ r. ⌜ r ≡ unlessComplete form (matchedWith form gone byte) ⌝ }
 {
     let now = matched_with(form, gone, byte);
@@ -69,7 +69,7 @@ fn with_record(gone: u8, answered: Answered) -> Answered
 }
 
 // What a reader in step has recorded after an answer: where it is lost then, nothing.
-fn recorded(gone: u8, answered: Answered) -> Answered
+fn recorded_in(gone: u8, answered: Answered) -> Answered
     ensures { λ r. ⌜ r ≡ recordedIn gone answered ⌝ }
 {
     let reader = answered.reader;

@@ -1,4 +1,4 @@
-// Where a reader stands: at the start of a text, elsewhere, and at the text's end.
+// Where a reader stands: at the start of a text, elsewhere, and at the text's end; and how much of an opening it has recorded.
 use paper::Element;
 use paper::EndWord;
 use paper::Form;

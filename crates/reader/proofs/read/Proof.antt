@@ -10,8 +10,8 @@ in-step c =
     let asked = c .before in
     let gone = asked .before in
     let told = gone .before in
-    (rw (gone .gone-with .ensures, asked .answer-in-step .ensures, told .before .before .before .recording .ensures) at
-    (c .recorded .ensures)) ∙
+    (rw (gone .record-with .ensures, asked .answer-in-step .ensures, told .before .before .before .recording .ensures) at
+    (c .recorded-in .ensures)) ∙
     in-step-answers _ _ _ (told .before .standing .given .1)
 
 lost : tie.Need-returns-2

@@ -30,8 +30,8 @@ use Rattle.converter.proofs.run.copy_run.Statement.{statement}
 use Rattle.converter.proofs.run.copy_run.Tie as tie
 
 abbrev Inv-loop : tie.InvT-loop
-Inv-loop to state text place buffer₀ at byte way lane gaps here₀ put₀ tried₀ buffer here put tried =
-    (place < tried) ×
+Inv-loop to state text place buffer₀ at byte way lane gaps here₀ put₀ blocks-at₀ buffer here put blocks-at =
+    (place < blocks-at) ×
     (place ≤ here) ×
     (here ≤ length text) ×
     (put ≤ at + 4 * (here - place)) ×
@@ -40,7 +40,7 @@ Inv-loop to state text place buffer₀ at byte way lane gaps here₀ put₀ trie
     Passes m to text lent state shown put here buffer)
 
 abbrev μ-loop : tie.MeasureT-loop
-μ-loop to state text place buffer₀ at byte way lane gaps here₀ put₀ tried₀ buffer here put tried = length text - here
+μ-loop to state text place buffer₀ at byte way lane gaps here₀ put₀ blocks-at₀ buffer here put blocks-at = length text - here
 
 -- ---- laws
 
@@ -158,7 +158,7 @@ returns c =
     let l = blocked k in
     let i = l .loop .inv in
     let run = k .before .before .copy-blocks in
-    let more : l .loop .here ≡ l .loop .tried = k .before .before .before .before .if2 .taken in
+    let more : l .loop .here ≡ l .loop .blocks-at = k .before .before .before .before .if2 .taken in
     subst (Promised l (run .last .1 .1 .1 .0)) (sym (c .run-to .ensures)) (
       run .ensures .0 .1,
       λ m shown lent b p. (

@@ -1,10 +1,10 @@
 -- An arm for each standing.
 use borrow.Author.Needs.{needs}
-use Rattle.reader.proofs.recorded.Statement.{statement}
-use Rattle.reader.proofs.recorded.Tie as tie
+use Rattle.reader.proofs.recorded_in.Statement.{statement}
+use Rattle.reader.proofs.recorded_in.Tie as tie
 
-pub recorded-spec : {M : Type 1} → statement M
-recorded-spec =
+pub recorded-in-spec : {M : Type 1} → statement M
+recorded-in-spec =
     tie.close
     (tie.spec
     (λ c. search needs)

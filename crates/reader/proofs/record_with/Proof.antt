@@ -3,11 +3,11 @@ use mathlib.Core.Path.{sym, _∙_}
 use borrow.Author.Tests.{eq-eqb, ne-eqb}
 use Rattle.paper.proofs.Tests.{tests}
 use borrow.Author.Needs.{needs}
-use Rattle.reader.proofs.gone_with.Statement.{statement}
-use Rattle.reader.proofs.gone_with.Tie as tie
+use Rattle.reader.proofs.record_with.Statement.{statement}
+use Rattle.reader.proofs.record_with.Tie as tie
 
-pub gone-with-spec : {M : Type 1} → statement M
-gone-with-spec =
+pub record-with-spec : {M : Type 1} → statement M
+record-with-spec =
     tie.close
     (tie.spec
     (λ c κs. search needs)
