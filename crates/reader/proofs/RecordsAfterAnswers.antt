@@ -5,7 +5,6 @@ use mathlib.Core.Path.{_≡_, refl, sym, ap, _∙_}
 use Rattle.paper.specs.Searching.{matchedWith}
 use Rattle.paper.specs.Marks.{recording, goneWith, unlessComplete, recorded}
 use Rattle.paper.specs.Answering.{answerInStep, answerLost, answerStanding, answerTo}
-use Rattle.paper.specs.declared.Form.{Form}
 use Rattle.paper.specs.declared.Within.{Within}
 use Rattle.paper.specs.declared.Standing.{Standing}
 use Rattle.paper.specs.declared.Reader.{Reader}
