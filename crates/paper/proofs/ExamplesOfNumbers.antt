@@ -1,7 +1,7 @@
 -- The paper's numbers and values: the words and refusals in its order, and lookups that it names, there and back.
 use Prim.Native.Nat.{ℕ}
 use mathlib.Core.Path.{_≡_, refl}
-use mathlib.Core.List.{List, [], _∷_, map}
+use mathlib.Core.List.{List, [], _∷_, _++_, map}
 use Rattle.paper.specs.Choice.{between, numbers}
 use Rattle.paper.specs.Words.{ControlElement, G0, G1, G2, G3, Of94, Of96, Count, Set, Intermediates, LS0, LS1}
 use Rattle.paper.specs.Words.{LS2, LS3, LS1R, LS2R, LS3R, SS2, SS3, PositionBytes, Refusal, Answer, EndWord}
@@ -84,7 +84,9 @@ pub refusals-in-order :
     Refusal.BufferShort ∷
     Refusal.NoNumber ∷
     Refusal.NotMapped ∷
-    []) ≡ numbers 11 1
+    Refusal.InputTooLong ∷
+    Refusal.WorkBufferShort ∷
+    []) ≡ numbers 11 1 ++ numbers 2 13
 refusals-in-order = refl
 
 -- a set, a number of position bytes, a column and a row; the refusal and the value

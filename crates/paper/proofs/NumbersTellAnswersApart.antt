@@ -51,7 +51,9 @@ refusalFrom n =
     eqb n (numberOf Refusal.TooLong) gives Refusal.TooLong or
     eqb n (numberOf Refusal.BufferShort) gives Refusal.BufferShort or
     eqb n (numberOf Refusal.NoNumber) gives Refusal.NoNumber or
-    Refusal.NotMapped
+    eqb n (numberOf Refusal.NotMapped) gives Refusal.NotMapped or
+    eqb n (numberOf Refusal.InputTooLong) gives Refusal.InputTooLong or
+    Refusal.WorkBufferShort
 
 abbrev setFrom : ℕ → ℕ → ℕ → Set
 setFrom k n f = record { kind = kindFrom k; count = countFrom n; last = f }
@@ -134,6 +136,8 @@ refusal-again Refusal.TooLong = refl
 refusal-again Refusal.BufferShort = refl
 refusal-again Refusal.NoNumber = refl
 refusal-again Refusal.NotMapped = refl
+refusal-again Refusal.InputTooLong = refl
+refusal-again Refusal.WorkBufferShort = refl
 
 answer-again : (a : Answer) → answerFrom (wordOf a) (valuesOf a) ≡ a
 answer-again Answer.NothingYet = refl

@@ -194,6 +194,10 @@ pub enum Refusal {
     NoNumber,
     // 11: a Unicode number in neither mapped set
     NotMapped,
+    // 13: an input to be shortened that is longer than 4,096 bytes (12 is free)
+    InputTooLong,
+    // 14: a lent work buffer below 65,536 bytes
+    WorkBufferShort,
 }
 
 // ---- Answer to one byte

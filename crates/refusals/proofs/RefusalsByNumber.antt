@@ -17,3 +17,5 @@ refusal-kept Refusal.TooLong = refl
 refusal-kept Refusal.BufferShort = refl
 refusal-kept Refusal.NoNumber = refl
 refusal-kept Refusal.NotMapped = refl
+refusal-kept Refusal.InputTooLong = refl
+refusal-kept Refusal.WorkBufferShort = refl

@@ -18,4 +18,6 @@ refusalOf n =
     eqb n (numberOf Refusal.TooLong) gives Refusal.TooLong or
     eqb n (numberOf Refusal.BufferShort) gives Refusal.BufferShort or
     eqb n (numberOf Refusal.NoNumber) gives Refusal.NoNumber or
-    Refusal.NotMapped
+    eqb n (numberOf Refusal.NotMapped) gives Refusal.NotMapped or
+    eqb n (numberOf Refusal.InputTooLong) gives Refusal.InputTooLong or
+    Refusal.WorkBufferShort

@@ -30,6 +30,10 @@ const NO_NUMBER: u8 = 10;
 
 const NOT_MAPPED: u8 = 11;
 
+const INPUT_TOO_LONG: u8 = 13;
+
+const WORK_BUFFER_SHORT: u8 = 14;
+
 // The number of a refusal in the paper's table.
 pub fn number_of(refusal: Refusal) -> usize
     ensures { λ r. ⌜ r ≡ numberOf refusal ⌝ }
@@ -46,6 +50,8 @@ pub fn number_of(refusal: Refusal) -> usize
         Refusal::BufferShort => BUFFER_SHORT as usize,
         Refusal::NoNumber => NO_NUMBER as usize,
         Refusal::NotMapped => NOT_MAPPED as usize,
+        Refusal::InputTooLong => INPUT_TOO_LONG as usize,
+        Refusal::WorkBufferShort => WORK_BUFFER_SHORT as usize,
     }
 }
 
@@ -64,6 +70,8 @@ pub fn refusal_of(number: u8) -> Refusal
         TOO_LONG => Refusal::TooLong,
         BUFFER_SHORT => Refusal::BufferShort,
         NO_NUMBER => Refusal::NoNumber,
-        _ => Refusal::NotMapped,
+        NOT_MAPPED => Refusal::NotMapped,
+        INPUT_TOO_LONG => Refusal::InputTooLong,
+        _ => Refusal::WorkBufferShort,
     }
 }
