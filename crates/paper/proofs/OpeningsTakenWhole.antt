@@ -24,6 +24,7 @@ use Rattle.paper.specs.Searching.{beginsWith, matchedWith, oneMore}
 use Rattle.paper.specs.Marks.{recording, isComplete, isInStep, recorded}
 use Rattle.paper.specs.Characters.{standingAt, c0Byte, byteIn}
 use Rattle.paper.specs.Answering.{means, answerWithin, answerInStep, answerLost, answerStanding, answerTo}
+use Rattle.paper.specs.Texts.{readerAfter}
 use Rattle.paper.specs.WrittenForms.{Entry, given, mark, withAnswer, withMark, sequenceFrom}
 use Rattle.paper.proofs.Choices.{impossible, gives-has}
 use Rattle.paper.proofs.LawfulAnswers.{form-on, shows-on}
@@ -52,6 +53,13 @@ unfolding between columnArea formHasColumn positionOf setByte sequenceByte c1Fun
     byIntermediate meaningOfOne matchedWith oneMore c0Byte byteIn means answerInStep answerLost answerTo
 opening-whole Seven t l g shows rest = ap (λ (e : Element). sequenceFrom (onGround Seven t l e) (opening Seven ++ rest)) (shows refl)
 opening-whole Eight t l g shows rest = refl
+
+pub reader-past-opening : (m : Form) (t : Sets) (l g : Element) → (m ≡ Seven → g ≡ G1) → (rest : List ℕ) →
+    readerAfter (onGround m t l g) (opening m ++ rest) ≡ readerAfter (started m) rest
+unfolding between columnArea formHasColumn positionOf setByte sequenceByte c1Function shiftOrOther meaningOfNone designation
+    byIntermediate meaningOfOne matchedWith oneMore c0Byte byteIn means answerInStep answerLost answerTo
+reader-past-opening Seven t l g shows rest = ap (λ (e : Element). readerAfter (onGround Seven t l e) (opening Seven ++ rest)) (shows refl)
+reader-past-opening Eight t l g shows rest = refl
 
 -- ---- a byte where no opening begins
 

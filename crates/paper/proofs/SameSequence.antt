@@ -17,14 +17,11 @@ use Rattle.paper.specs.Surveying.{firstRefusal, firstOf}
 use Rattle.paper.specs.WrittenForms.{Entry, sequenceOf, writerAtStart, written}
 use Rattle.paper.specs.Conversions.{refusalAtEnd, Accepted, output, intoRoom, conversion, refusalIn}
 use Rattle.paper.proofs.Choices.{impossible, gives-has}
+use Rattle.paper.proofs.AcceptedTextsEndWhole.{refuses-nothing}
 use Rattle.paper.proofs.WhatCanBeWritten.{entriesOf}
 use Rattle.paper.proofs.WhatIsReadCanBeWritten.{can-be-written}
 use Rattle.paper.proofs.ReadingOn.{ReadsAs}
 use Rattle.paper.proofs.WrittenAnswersReadBack.{reader-at-start, sequence-reads-back}
-
-first-never : (x y : FirstRefusal) → firstOf x y ≡ Never → x ≡ Never
-first-never Never y e = refl
-first-never (First r at) y e = impossible (cc)
 
 output-reads-back : (from to : Form) (text : List ℕ) → firstRefusal (answersOf from text) ≡ Never →
     ReadsAs (started to) (output from to text) (sequenceOf from text)
@@ -35,7 +32,7 @@ output-reads-back from to text never =
     (sequence-reads-back to (can .steps) writerAtStart refl (can .all)))
 
 -- what refuses nothing and ends whole is accepted
-accepted-where : (m : Form) (text : List ℕ) → firstRefusal (answersOf m text) ≡ Never → endWord m text ≡ EndWord.Whole → Accepted m text
+pub accepted-where : (m : Form) (text : List ℕ) → firstRefusal (answersOf m text) ≡ Never → endWord m text ≡ EndWord.Whole → Accepted m text
 accepted-where m text never whole =
     ap (λ (x : FirstRefusal). firstOf x (refusalAtEnd (endWord m text) (length text))) never ∙
     ap (λ (e : EndWord). refusalAtEnd e (length text)) whole
@@ -45,8 +42,7 @@ pub same-sequence : (from to : Form) (text : List ℕ) → Accepted from text �
     let bytes = output from to text in
     Accepted to bytes × (endWord to bytes ≡ EndWord.Whole) × (sequenceOf to bytes ≡ sequenceOf from text)
 same-sequence from to text accepted =
-    let never = first-never (firstRefusal (answersOf from text)) (refusalAtEnd (endWord from text) (length text)) accepted in
-    let reads = output-reads-back from to text never in
+    let reads = output-reads-back from to text (refuses-nothing from text accepted) in
     (accepted-where to (output from to text) (reads .never 0) (reads .whole), reads .whole, reads .sequence 0 (omega arith))
 
 -- ---- there and back

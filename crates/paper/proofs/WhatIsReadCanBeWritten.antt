@@ -25,7 +25,7 @@ use Rattle.paper.specs.Answering.{means, intermediate, sequenceAt, groun
 use Rattle.paper.specs.Answering.{answerStanding, answerTo}
 use Rattle.paper.specs.Texts.{answersFrom, answersOf}
 use Rattle.paper.specs.Surveying.{firstRefusal, refusalOr}
-use Rattle.paper.specs.WrittenForms.{Entry, given, leftOut, withAnswer, sequenceOf, setsWith}
+use Rattle.paper.specs.WrittenForms.{Entry, given, leftOut, withAnswer, sequenceFrom, sequenceOf, setsWith}
 use Rattle.paper.proofs.Choices.{impossible, gives-has, gives-by}
 use Rattle.paper.proofs.TableOfSequences.{Lasts, Rows, every-meaning}
 use Rattle.paper.proofs.LawfulAnswers.{IsInStep}
@@ -106,7 +106,7 @@ becomes m f = record {
 
 module _ (r : Reader) (b : ℕ) where
   -- an answer that refuses nothing can be written, and leaves a reader that is fit
-  abbrev Fair : Answered → Type 0
+  abbrev pub Fair : Answered → Type 0
   Fair a = NotRefused (a .answer) → CanBeWritten (r .sets) (a .answer) × Stands (a .reader .sets) (a .reader .standing)
 
   fair-refusal : (n : Refusal) → Fair (refuses n b r)
@@ -199,7 +199,7 @@ module _ (r : Reader) (b : ℕ) where
       (λ s. fair-character e a (withByte p (positionIn a b)) (with-fits (x .kind) p (positionIn a b) (h .0) (of-set-in a (x .kind) b s))
       (with-more p (positionIn a b) (bytesOf (x .count)) (h .1)))
 
-  fair-standing : (s : Standing) → Stands (r .sets) s → Fair (answerStanding s b r)
+  pub fair-standing : (s : Standing) → Stands (r .sets) s → Fair (answerStanding s b r)
   unfolding answerInStep
   fair-standing (Standing.InStep w) h =
       gives-has Fair (formHas (r .form) b) (fair-within w h) (fair-refusal Refusal.ByteOfEightBits)
@@ -207,16 +207,16 @@ module _ (r : Reader) (b : ℕ) where
 
 -- ---- a text
 
-stands-in-step : (t : Sets) (s : Standing) → Stands t s → IsInStep s
+pub stands-in-step : (t : Sets) (s : Standing) → Stands t s → IsInStep s
 stands-in-step t (Standing.InStep w) h = tt
 stands-in-step t (Standing.Lost k n) h = absurd h
 
 -- where a text refuses nothing, its first answer is no refusal
-not-refused : (a : Answer) (at : ℕ) (later : FirstRefusal) → refusalOr later at a ≡ Never → NotRefused a
+pub not-refused : (a : Answer) (at : ℕ) (later : FirstRefusal) → refusalOr later at a ≡ Never → NotRefused a
 not-refused a at later h n e = impossible (cc (ap (refusalOr later at) e))
 
 -- an answer that can be written joins what can be written, or is left out
-one-more : (a : Answer) (t : Sets) (l : List Entry) → leftOut a ≡ false → CanBeWritten t a → InSteps (setsWith t a) l → InSteps t (given a ∷ l)
+pub one-more : (a : Answer) (t : Sets) (l : List Entry) → leftOut a ≡ false → CanBeWritten t a → InSteps (setsWith t a) l → InSteps t (given a ∷ l)
 one-more a t l stays h more = record {
   steps = said a (more .steps);
   is = ap (λ (l : List Entry). given a ∷ l) (more .is);
@@ -238,7 +238,7 @@ joins Answer.Skipped t l h more = absurd h
 joins (Answer.InStep n) t l h more = absurd h
 
 -- of a text from a reader: where it refuses nothing, its sequence can be written
-abbrev Written : Reader → List ℕ → List Entry → Type 0
+abbrev pub Written : Reader → List ℕ → List Entry → Type 0
 Written r text l = (at : ℕ) → Stands (r .sets) (r .standing) → firstRefusal (answersFrom at r text) ≡ Never → InSteps (r .sets) l
 
 written-byte : (r : Reader) (b : ℕ) (bs : List ℕ) (l : List Entry) → Written (answerOf r b .reader) bs l →
@@ -282,7 +282,10 @@ written-whole r rest l ground shows more at h never =
     let after = more (past at (opening m)) tt nothing in
     record { steps = opened (after .steps); is = ap withOpening (after .is); all = after .all }
 
+-- from a reader that has recorded nothing
+pub rest-can-be-written : (text : List ℕ) (r : Reader) → ShowsG1 r → Written r text (sequenceFrom (recording 0 r) text)
+rest-can-be-written =
+    by-openings Written (λ r at h none. record { steps = ended; is = refl; all = tt }) written-byte written-whole
+
 pub can-be-written : (m : Form) (text : List ℕ) → firstRefusal (answersOf m text) ≡ Never → InSteps startingSets (sequenceOf m text)
-can-be-written m text never =
-    by-openings Written (λ r at h none. record { steps = ended; is = refl; all = tt }) written-byte written-whole text (started m)
-    (λ seven. refl) 0 tt never
+can-be-written m text never = rest-can-be-written text (started m) (λ seven. refl) 0 tt never

@@ -20,7 +20,6 @@ use Rattle.paper.specs.Marks.{recording}
 use Rattle.paper.specs.Sequences.{functionOfSS2, functionOfSS3, c1Function, intermediateOfControls}
 use Rattle.paper.specs.Characters.{says, shifts, bytesSoFar}
 use Rattle.paper.specs.Answering.{means, endOfText}
-use Rattle.paper.specs.Texts.{readerAfter}
 use Rattle.paper.specs.Results.{positionValues}
 use Rattle.paper.specs.WrittenForms.{Entry, given, leftOut, sequenceFrom, intermediatesOf, functionBytes, byteFrom, characterBytes, bytesOfAnswer, Writer}
 use Rattle.paper.specs.WrittenForms.{Locking, none, shiftIn, shiftOut, lockingBytes, glWith, beforeCharacter, beforeSpace, lockingInSeven, writtenFor}
@@ -30,11 +29,8 @@ use Rattle.paper.proofs.WhatCanBeWritten.{AllOfSet, MayHave, CanBeWritt
 use Rattle.paper.proofs.ListsThatEnd.{tail-ends}
 use Rattle.paper.proofs.OpeningsAmongBytes.{no-overlap}
 use Rattle.paper.proofs.BeginningsThatFallBack.{without, less-without}
-use Rattle.paper.proofs.RecordsOfOpenings.{noted-none, nothing-after}
 use Rattle.paper.proofs.RecordsNotCompleted.{NotBegins, not-completed}
-use Rattle.paper.proofs.AnOpeningInStep.{from-in-step}
-use Rattle.paper.proofs.OpeningsTakenWhole.{withOpening, opening-whole}
-use Rattle.paper.proofs.TextsThatGoOn.{reader-on}
+use Rattle.paper.proofs.OpeningsTakenWhole.{withOpening, opening-whole, reader-past-opening}
 use Rattle.paper.proofs.WhatIsReadCanBeWritten.{past, refused-after}
 use Rattle.paper.proofs.WrittenBytes.{both-have-gl, final-is, function-low}
 use Rattle.paper.proofs.WrittenDesignations.{intermediate-of-controls, designation-leads, designation-means, controls-mean}
@@ -44,14 +40,14 @@ use Rattle.paper.proofs.WrittenSequencesReadBack.{reads-sequence, reads
 
 -- ---- what GL shows where an answer's bytes are written
 
-abbrev Shows : Form → Element → Element → Type 0
+abbrev pub Shows : Form → Element → Element → Type 0
 Shows m G0 gl = gl ≡ G0
 Shows Seven G1 gl = gl ≡ G1
 Shows Eight G1 gl = Unit {0}
 Shows m G2 gl = Unit {0}
 Shows m G3 gl = Unit {0}
 
-abbrev Ready : Form → Sets → Element → Answer → Type 0
+abbrev pub Ready : Form → Sets → Element → Answer → Type 0
 Ready m t gl Answer.NothingYet = Unit {0}
 Ready m t gl (Answer.Char e x p) = Shows m e gl
 Ready m t gl Answer.Space = setIn t gl .kind ≡ Of94
@@ -121,7 +117,7 @@ ready-in-eight (Answer.InStep n) t g0 = tt
 -- ---- an answer, but for the locking shift before it
 
 module _ (t : Sets) (gl : Element) (bs : List ℕ) (l : List Entry) where
-  abbrev ground : Form → Reader
+  abbrev pub ground : Form → Reader
   ground m = readerWith m t gl G1 Within.Ground
 
   module _ (p : PositionBytes) where
@@ -167,7 +163,7 @@ module _ (t : Sets) (gl : Element) (bs : List ℕ) (l : List Entry) where
     character-back Eight G2 shows h = in-g2 Eight h
     character-back Eight G3 shows h = in-g3 Eight h
 
-  reads-back : (a : Answer) (m : Form) → leftOut a ≡ false → CanBeWritten t a → Ready m t gl a →
+  pub reads-back : (a : Answer) (m : Form) → leftOut a ≡ false → CanBeWritten t a → Ready m t gl a →
       ReadsAs (readerWith m (setsWith t a) gl G1 Within.Ground) bs l → ReadsAs (ground m) (bytesOfAnswer m a ++ bs) (given a ∷ l)
   unfolding means
   reads-back Answer.NothingYet m stays h ready more = impossible (cc)
@@ -212,7 +208,7 @@ abbrev pub readerOf : Form → Writer → Reader
 readerOf m w = readerWith m (w .sets) (shown m (w .gl)) G1 Within.Ground
 
 -- in 7-bit form no answer's bytes begin with SI
-not-shift-in : (k : Kind) (q : ℕ) → setByte k q ≡ OfSet → q ≡ si → ⊥
+pub not-shift-in : (k : Kind) (q : ℕ) → setByte k q ≡ OfSet → q ≡ si → ⊥
 unfolding setByte between
 not-shift-in k q of-set e = impossible (cc (ap (setByte k) e))
 
@@ -266,7 +262,7 @@ of-94 : (k : Kind) → MayHave G0 k → k ≡ Of94
 of-94 Of94 h = refl
 of-94 Of96 h = absurd h
 
-keeps-g0 : (a : Answer) (t : Sets) → CanBeWritten t a → t .g0 .kind ≡ Of94 → setsWith t a .g0 .kind ≡ Of94
+pub keeps-g0 : (a : Answer) (t : Sets) → CanBeWritten t a → t .g0 .kind ≡ Of94 → setsWith t a .g0 .kind ≡ Of94
 keeps-g0 Answer.NothingYet t h g0 = g0
 keeps-g0 (Answer.Char e x p) t h g0 = g0
 keeps-g0 Answer.Space t h g0 = g0
@@ -319,15 +315,13 @@ pub written-opening : (m : Form) (w : Writer) (l : List Entry) → writtenFrom m
 written-opening Seven w l = refl
 written-opening Eight w l = refl
 
-reads-opening : (m : Form) (t : Sets) (gl : Element) (bs : List ℕ) (l : List Entry) → ReadsAs (started m) bs l →
+pub reads-opening : (m : Form) (t : Sets) (gl : Element) (bs : List ℕ) (l : List Entry) → ReadsAs (started m) bs l →
     ReadsAs (readerWith m t gl G1 Within.Ground) (opening m ++ bs) (withOpening l)
 reads-opening m t gl bs l more =
     let r : Reader = readerWith m t gl G1 Within.Ground in
     record {
       never = λ at. refused-after m t gl G1 at bs (λ seven. refl) ∙ more .never (past at (opening m));
-      whole = ap endOfText (reader-on (opening m) bs r ∙
-          ap (λ (x : Reader). readerAfter x bs)
-          (from-in-step m Within.Ground t gl G1 0 (λ seven. refl) (nothing-after m [] 0 (noted-none m)))) ∙ more .whole;
+      whole = ap endOfText (reader-past-opening m t gl G1 (λ seven. refl) bs) ∙ more .whole;
       sequence = λ k h.
           from-nothing r bs k k (omega arith) (omega (arith, all-longer m)) ∙ opening-whole m t gl G1 (λ seven. refl) bs ∙
           ap withOpening (more .sequence 0 (omega arith));

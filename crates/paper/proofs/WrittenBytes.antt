@@ -56,7 +56,7 @@ both-have-gl Eight = refl
 
 -- ---- position bytes
 
-of-set-bounds : (k : Kind) (q : ℕ) → setByte k q ≡ OfSet → (space ≤ q) × (q ≤ delete)
+pub of-set-bounds : (k : Kind) (q : ℕ) → setByte k q ≡ OfSet → (space ≤ q) × (q ≤ delete)
 unfolding setByte
 of-set-bounds k q =
     gives-by (λ (s : SetByte). s ≡ OfSet → (space ≤ q) × (q ≤ delete)) (between space delete q)
@@ -90,13 +90,15 @@ byte-of GraphicArea.GR k q e =
 
 -- ---- bytes of a sequence
 
-pub intermediate-area : (i : ℕ) → sequenceByte i ≡ Intermediate → areaOf i ≡ Area.GL
+pub intermediate-bounds : (i : ℕ) → sequenceByte i ≡ Intermediate → (0x20 ≤ i) × (i ≤ 0x2F)
 unfolding sequenceByte
-intermediate-area i =
-    let P : SequenceByte → Type 0 = λ s. s ≡ Intermediate → areaOf i ≡ Area.GL in
-    gives-by P (isIntermediate i)
-    (λ is e. let h = between-bounds 0x20 0x2F i is in area-of-gl i (h .0) (omega (arith, h .1)))
+intermediate-bounds i =
+    let P : SequenceByte → Type 0 = λ s. s ≡ Intermediate → (0x20 ≤ i) × (i ≤ 0x2F) in
+    gives-by P (isIntermediate i) (λ is e. between-bounds 0x20 0x2F i is)
     (λ not. gives-by P (isFinal i) (λ is e. impossible (cc)) (λ neither e. impossible (cc)))
+
+pub intermediate-area : (i : ℕ) → sequenceByte i ≡ Intermediate → areaOf i ≡ Area.GL
+intermediate-area i e = let h = intermediate-bounds i e in area-of-gl i (h .0) (omega (arith, h .1))
 
 pub final-is : (f : ℕ) → sequenceByte f ≡ Final → isFinal f ≡ true
 unfolding sequenceByte

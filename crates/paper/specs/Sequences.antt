@@ -50,11 +50,18 @@ abbrev pub rightShift : Form → Shift → Meaning
 rightShift Seven h = NoMeaning
 rightShift Eight h = Shifts h
 
+-- 6/14, 6/15: LS2, LS3
+abbrev pub finalOfLS2 : ℕ
+finalOfLS2 = 0x6E
+
+abbrev pub finalOfLS3 : ℕ
+finalOfLS3 = 0x6F
+
 -- F 6/0 to 7/14: LS2, LS3, LS1R, LS2R, LS3R; the rest is other
 unfoldable pub shiftOrOther : Form → ℕ → Meaning
 shiftOrOther m f =
-    eqb f 0x6E gives Shifts LS2 or
-    eqb f 0x6F gives Shifts LS3 or
+    eqb f finalOfLS2 gives Shifts LS2 or
+    eqb f finalOfLS3 gives Shifts LS3 or
     eqb f 0x7E gives rightShift m LS1R or
     eqb f 0x7D gives rightShift m LS2R or
     eqb f 0x7C gives rightShift m LS3R or

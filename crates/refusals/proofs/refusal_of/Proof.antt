@@ -19,4 +19,6 @@ refusal-of-spec =
     (λ c. simp (c .match .keys8))
     (λ c. simp (c .match .keys9))
     (λ c. simp (c .match .keys10))
+    (λ c. simp (c .match .keys11))
+    (λ c. simp (c .match .keys12))
     (λ c. search tests))

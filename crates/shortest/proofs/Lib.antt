@@ -1,0 +1,13 @@
+pub mod TextsInOrder
+pub mod TheCheapestShift
+pub mod BytesOfAnAnswer
+pub mod ShiftsInOrder
+pub mod WhatIsChosen
+pub mod NoWayComesBefore
+pub mod NoBetterByAShift
+pub mod ReadInSevenBits
+pub mod NoneComesBefore
+pub mod TheTextReadsBack
+pub mod TheShortestText
+pub mod Examples
+pub mod OrderOfRefusals

@@ -1,0 +1,77 @@
+-- What is asked of the text. Of an accepted text in either form, the text that is written is the shortest of its sequence; there is one
+-- shortest text of a sequence; and it is no longer than the 7-bit written form.
+use Prim.Native.Nat.{ℕ, _≤_}
+use mathlib.Core.Path.{_≡_, refl, sym, ap, _∙_, subst}
+use mathlib.Core.List.{List, [], _∷_}
+use native.Mathlib.Omega.{arith}
+use lib.ListN.{length}
+use Rattle.paper.specs.Starting.{startingSets, started}
+use Rattle.paper.specs.Texts.{answersOf, endWord}
+use Rattle.paper.specs.Surveying.{firstRefusal, firstOf}
+use Rattle.paper.specs.WrittenForms.{Entry, given, sequenceOf}
+use Rattle.paper.specs.Conversions.{refusalAtEnd, Accepted, output}
+use Rattle.paper.specs.declared.Form.{Form}
+use Rattle.paper.specs.declared.Element.the-variants.{G0}
+use Rattle.paper.specs.declared.EndWord.{EndWord}
+use Rattle.paper.specs.declared.FirstRefusal.the-variants.{Never}
+use Rattle.paper.proofs.WhatCanBeWritten.{Steps, ended, said, opened, entriesOf, InSteps}
+use Rattle.paper.proofs.WhatIsReadCanBeWritten.{can-be-written}
+use Rattle.paper.proofs.ReadingOn.{ReadsAs}
+use Rattle.paper.proofs.AcceptedTextsEndWhole.{refuses-nothing, accepted-ends-whole}
+use Rattle.paper.proofs.SameSequence.{accepted-where, same-sequence}
+use Rattle.shortest.specs.ByteOrder.{NotAfter}
+use Rattle.shortest.specs.Shortest.{Reads, Shortest}
+use Rattle.shortest.specs.ShortestText.{Gathered, gathered, before, stepsOf, shortestFrom, shortestOf}
+use Rattle.shortest.proofs.TextsInOrder.{no-longer, one-of-two}
+use Rattle.shortest.proofs.NoneComesBefore.{none-comes-before}
+use Rattle.shortest.proofs.TheTextReadsBack.{text-reads-back}
+
+-- a sequence has one list of steps
+gathered-again : (s : Steps) → gathered (entriesOf s) ≡ record { left = 0; steps = s }
+gathered-again ended = refl
+gathered-again (said a s) = ap (λ (g : Gathered). before a (g .left) (g .steps)) (gathered-again s)
+gathered-again (opened s) = ap (λ (g : Gathered). record { left = 0; steps = opened (g .steps) }) (gathered-again s)
+
+pub steps-again : (s : Steps) → stepsOf (entriesOf s) ≡ s
+steps-again s = ap (λ (g : Gathered). g .steps) (gathered-again s)
+
+-- two texts that are shortest for a sequence are one
+pub one-shortest : (sequence : List Entry) (text other : List ℕ) → Shortest sequence text → Shortest sequence other → text ≡ other
+one-shortest sequence text other a b = one-of-two (a .first other (b .reads)) (b .first text (a .reads))
+
+module _ (m : Form) (text : List ℕ) (accepted : Accepted m text) where
+  abbrev sequence : List Entry
+  sequence = sequenceOf m text
+
+  pub can : InSteps startingSets sequence
+  can = can-be-written m text (refuses-nothing m text accepted)
+
+  pub as-steps : stepsOf sequence ≡ can .steps
+  as-steps = ap stepsOf (can .is) ∙ steps-again (can .steps)
+
+  reads-back : ReadsAs (started Form.Seven) (shortestOf sequence) sequence
+  reads-back =
+      subst (λ (s : Steps). ReadsAs (started Form.Seven) (shortestFrom s startingSets G0) sequence) (sym as-steps)
+      (subst (ReadsAs (started Form.Seven) (shortestFrom (can .steps) startingSets G0)) (sym (can .is))
+      (text-reads-back (can .steps) startingSets G0 refl (can .all)))
+
+  -- none that reads as the sequence comes before it
+  comes-first : (other : List ℕ) → Reads sequence other → NotAfter (shortestOf sequence) other
+  comes-first other reads =
+      let found = none-comes-before other (refuses-nothing Form.Seven other (reads .accepted)) (accepted-ends-whole Form.Seven other (reads .accepted)) in
+      let same : stepsOf sequence ≡ found .steps = ap stepsOf (sym (reads .same) ∙ found .is) ∙ steps-again (found .steps) in
+      subst (λ (s : Steps). NotAfter (shortestFrom s startingSets G0) other) (sym same) (found .first [] refl)
+
+  pub is-the-shortest : Shortest sequence (shortestOf sequence)
+  is-the-shortest = record {
+    reads = record {
+      accepted = accepted-where Form.Seven (shortestOf sequence) (reads-back .never 0) (reads-back .whole);
+      same = reads-back .sequence 0 (omega arith);
+    };
+    first = comes-first;
+  }
+
+  pub no-longer-than-written : length (shortestOf sequence) ≤ length (output m Form.Seven text)
+  no-longer-than-written =
+      let written = same-sequence m Form.Seven text accepted in
+      no-longer (comes-first (output m Form.Seven text) (record { accepted = written .0; same = written .2 }))

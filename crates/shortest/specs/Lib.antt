@@ -1,0 +1,4 @@
+pub mod ByteOrder
+pub mod Shortest
+pub mod ShortestText
+pub mod Shortening
