@@ -1,7 +1,6 @@
 pub mod ConvertedByTwoPasses
 pub mod GapsCopy
 pub mod MostFiveBytes
-pub mod OverTheBuffer
 pub mod PassByItems
 pub mod PassByPieces
 pub mod PassEnds

@@ -44,10 +44,11 @@ use Rattle.items.proofs.CharactersGoOn.{kind-in}
 use Rattle.items.proofs.ItemsByBytes.{WaitsOn, NoRefusal, saidBytes, LastByte, Stopped, refused-at, ends-inside-at, Opens, Good}
 use Rattle.items.proofs.ItemsByBytes.{good-reads, good-stops}
 use Rattle.items.proofs.ItemsGoOn.{ReadsOn, items-go-on}
+use Rattle.items.proofs.TextsReadOn.{leaves}
 use Rattle.converter.specs.Passing.{beside, restFrom, Passing, OfTwo, Passes}
 use Rattle.converter.specs.Writing.{Wrote, writes, Writable}
 use Rattle.converter.proofs.MostFiveBytes.{at-most-five}
-use Rattle.converter.proofs.PassGoesOn.{leaves, passing-starts, passing-goes-on, passing-refused, passing-ends, opening-within}
+use Rattle.converter.proofs.PassGoesOn.{passing-starts, passing-goes-on, passing-refused, passing-ends, opening-within}
 use Rattle.converter.proofs.PassGoesOn.{passing-opens}
 use Rattle.converter.proofs.WritesAnswers.{writes-answer}
 

@@ -2,14 +2,11 @@
 -- holds where the text ends.
 use Prim.Native.Nat.{ℕ, suc, _+_, _<_, _≤_}
 use mathlib.Core.Path.{_≡_, refl, sym, ap, _∙_, subst}
-use mathlib.Core.Logic.{⊎-elim}
 use mathlib.Core.Bool.{true, false}
 use mathlib.Core.List.{List, [], _∷_, _++_, append-assoc, append-nil}
-use native.Mathlib.Nat.{add-zero, add-suc, suc-add}
-use native.Mathlib.Numerals.{add-one}
 use native.Mathlib.Omega.{arith}
 use lib.ListN.{length, drop, getD, length-append, length-drop, drop-of-length-le}
-use lib.Seq.{drop-cons, drop-drop, sets}
+use lib.Seq.{sets}
 use Rattle.paper.specs.Starting.{started, opening}
 use Rattle.paper.specs.Searching.{beginsWith}
 use Rattle.paper.specs.Marks.{recording}
@@ -31,22 +28,18 @@ use Rattle.paper.specs.declared.Refusal.{Refusal}
 use Rattle.paper.specs.declared.Answer.{Answer}
 use Rattle.paper.specs.declared.FirstRefusal.{FirstRefusal}
 use Rattle.paper.specs.declared.FirstRefusal.the-variants.{First}
-use Rattle.paper.proofs.Choices.{impossible}
-use Rattle.paper.proofs.ListsThatEnd.{begins-rest, rest-begins}
 use Rattle.paper.proofs.LawfulAnswers.{IsInStep, Leaves, in-step-lawful}
-use Rattle.paper.proofs.TextsThatGoOn.{reader-on}
 use Rattle.paper.proofs.AnswersWithoutTheRecord.{answerOf, recordOf, answers-alike, reader-alike}
-use Rattle.paper.proofs.RecordsOfOpenings.{noted-none, nothing-after}
 use Rattle.paper.proofs.RecordsNotCompleted.{NotBegins, form-of}
-use Rattle.paper.proofs.AnOpeningInStep.{from-in-step}
 use Rattle.paper.proofs.OpeningsTakenWhole.{onGround, opening-whole, Alone, byte-alone, byte-elsewhere, ShowsG1, shows-of}
-use Rattle.paper.proofs.WhatIsReadCanBeWritten.{past, refused-after}
 use Rattle.paper.proofs.WrittenAnswersReadBack.{written-opening}
 use Rattle.paper.proofs.WrittenTurnByTurn.{one-turn, sets-by-the-answer}
 use Rattle.items.proofs.ItemsByBytes.{NoRefusal}
 use Rattle.items.proofs.ItemsGoOn.{ReadsOn}
+use Rattle.items.proofs.TextsReadOn.{in-step-on, rest, alone, first-here, end-here, first-after, end-after, sequence-after}
+use Rattle.items.proofs.TextsReadOn as texts
 use Rattle.converter.specs.Passing.{beside, restFrom, refusalFrom, Passing}
-use Rattle.converter.proofs.OverTheBuffer.{over-more}
+use Rattle.items.proofs.OverTheBuffer.{over-more}
 
 pub passing-starts : (m to : Form) (text lent : List ℕ) → Passing m to text lent (started m) Element.G0 0 0 lent
 passing-starts m to text lent = record {
@@ -78,36 +71,7 @@ later-refusal (Answer.Refused n) later at h = absurd (h n refl)
 later-refusal Answer.Skipped later at h = refl
 later-refusal (Answer.InStep n) later at h = refl
 
-stays-in-step : (r : Reader) (b : ℕ) (a : Answer) (next : Reader) → Leaves r b a next → NoRefusal a → IsInStep (next .standing)
-stays-in-step r b Answer.NothingYet next l h = l
-stays-in-step r b (Answer.Char e x p) next l h = l
-stays-in-step r b Answer.Space next l h = l
-stays-in-step r b Answer.Delete next l h = l
-stays-in-step r b (Answer.Control w f n) next l h = l
-stays-in-step r b (Answer.DesignateControls w f) next l h = l
-stays-in-step r b (Answer.Designate e x) next l h = l
-stays-in-step r b (Answer.Shift s) next l h = l
-stays-in-step r b (Answer.Other s f) next l h = l
-stays-in-step r b (Answer.Refused n) next l h = absurd (h n refl)
-stays-in-step r b Answer.Skipped next l h = absurd l
-stays-in-step r b (Answer.InStep n) next l h = absurd l
-
-pub leaves : (r : Reader) (b : ℕ) (s : Standing) → IsInStep s → Leaves r b (answerStanding s b r .answer) (answerStanding s b r .reader)
-leaves r b (Standing.InStep w) h = in-step-lawful r b w .2
-leaves r b (Standing.Lost k n) h = absurd h
-
-in-step-on : (r : Reader) (b : ℕ) → IsInStep (r .standing) → NoRefusal (answerOf r b .answer) → IsInStep (answerOf r b .reader .standing)
-in-step-on r b h no-refusal =
-    stays-in-step (recording 0 r) b (answerOf r b .answer) (answerOf r b .reader) (leaves (recording 0 r) b (r .standing) h) no-refusal
-
 -- ---- one byte
-
--- no opening begins where none is ahead
-none-begins : (m : Form) (text : List ℕ) → beginsWith text (opening m) ≡ false → NotBegins (opening m) text
-none-begins m text none rest is =
-    let there : beginsWith text (opening m) ≡ true =
-    ap (λ (l : List ℕ). beginsWith l (opening m)) is ∙ rest-begins (opening m) rest in
-    impossible (cc)
 
 module _ (text : List ℕ) (r : Reader) (place : ℕ) (inside : place < length text) where
   abbrev here : ℕ
@@ -122,32 +86,15 @@ module _ (text : List ℕ) (r : Reader) (place : ℕ) (inside : place < length t
   abbrev said : Answer
   said = answerOf r here .answer
 
-  rest : drop place text ≡ here ∷ more
-  rest = drop-cons text place 0 inside ∙ ap (λ (n : ℕ). here ∷ drop n text) (sym (add-one place))
-
-  alone : ReadsOn (r .form) text r place → Alone r here more
-  alone reads = ⊎-elim (byte-elsewhere r here more)
-      (λ none. byte-alone r here more (subst (NotBegins (opening (r .form))) rest (none-begins (r .form) (drop place text) none)))
-      reads
-
-  first-here : firstRefusal (answersFrom place r (here ∷ more)) ≡ refusalOr (firstRefusal (answersFrom (place + 1) next more)) place said
-  unfolding answerTo
-  first-here =
-      ap (λ (l : List Placed). refusalOr (firstRefusal l) place said) (answers-alike more (suc place) (recordOf r here) (next .gone) next) ∙
-      ap (λ (n : ℕ). refusalOr (firstRefusal (answersFrom n next more)) place said) (sym (add-one place))
-
-  end-here : endOfText (readerAfter r (here ∷ more)) ≡ endOfText (readerAfter next more)
-  unfolding answerTo
-  end-here = ap endOfText (reader-alike more (recordOf r here) (next .gone) next)
-
   refusal-here : refusalFrom r place text ≡
       firstOf (refusalOr (firstRefusal (answersFrom (place + 1) next more)) place said)
       (refusalAtEnd (endOfText (readerAfter next more)) (length text))
   refusal-here =
-      ap (λ (l : List ℕ). firstOf (firstRefusal (answersFrom place r l)) (refusalAtEnd (endOfText (readerAfter r l)) (length text))) rest ∙
-      ap (λ (f : FirstRefusal). firstOf f (refusalAtEnd (endOfText (readerAfter r (here ∷ more))) (length text))) first-here ∙
+      ap (λ (l : List ℕ). firstOf (firstRefusal (answersFrom place r l)) (refusalAtEnd (endOfText (readerAfter r l)) (length text)))
+      (rest text r place inside) ∙
+      ap (λ (f : FirstRefusal). firstOf f (refusalAtEnd (endOfText (readerAfter r (here ∷ more))) (length text))) (first-here text r place inside) ∙
       ap (λ (e : EndWord). firstOf (refusalOr (firstRefusal (answersFrom (place + 1) next more)) place said)
-      (refusalAtEnd e (length text))) end-here
+      (refusalAtEnd e (length text))) (end-here text r place inside)
 
   refusal-later : NoRefusal said → refusalFrom r place text ≡ refusalFrom next (place + 1) text
   refusal-later no-refusal =
@@ -163,8 +110,8 @@ module _ (text : List ℕ) (r : Reader) (place : ℕ) (inside : place < length t
   written-here to gl h reads =
       let w = beside r gl in
       let l : List Entry = sequenceFrom (recording 0 next) more in
-      ap (λ (bytes : List ℕ). writtenFrom to w (sequenceFrom (recording 0 r) bytes)) rest ∙
-      ap (writtenFrom to w) (alone reads) ∙
+      ap (λ (bytes : List ℕ). writtenFrom to w (sequenceFrom (recording 0 r) bytes)) (rest text r place inside) ∙
+      ap (writtenFrom to w) (alone text r place inside reads) ∙
       one-turn said to w l ∙
       ap (λ t. writtenFor to w said ++ writtenFrom to (record { sets = t; gl = writerAfter to w said .gl }) l)
       (sym (sets-by-the-answer r here h))
@@ -247,69 +194,27 @@ module _ {m to : Form} {text lent : List ℕ} {r : Reader} {gl : Element} {at pl
 
 -- ---- an opening, taken whole
 
-past-is : (bs : List ℕ) (at : ℕ) → past at bs ≡ at + length bs
-past-is [] at = sym (add-zero at)
-past-is (b ∷ bs) at = past-is bs (suc at) ∙ (suc-add at (length bs) ∙ sym (add-suc at (length bs)))
-
 module _ {m to : Form} {text lent : List ℕ} {r : Reader} {gl : Element} {at place : ℕ} {buffer : List ℕ}
     (p : Passing m to text lent r gl at place buffer) (ground : r .standing ≡ Standing.InStep Within.Ground)
     (begins : beginsWith (drop place text) (opening m) ≡ true) where
   abbrev there : ℕ
   there = place + length (opening m)
 
-  abbrev after-it : List ℕ
-  after-it = drop there text
-
-  text-is : drop place text ≡ opening m ++ after-it
-  text-is =
-      begins-rest (drop place text) (opening m) begins ∙
-      ap (λ (l : List ℕ). opening m ++ l) (drop-drop (length (opening m)) place text)
-
-  abbrev grounded : Reader
-  grounded = onGround m (r .sets) (r .gl) (r .gr)
-
-  same-reader : recording 0 r ≡ grounded
-  same-reader i = record {
-    form = p .form i;
-    sets = r .sets;
-    gl = r .gl;
-    gr = r .gr;
-    gone = 0;
-    standing = ground i;
-  }
-
-  shows-g1 : m ≡ Seven → r .gr ≡ G1
-  shows-g1 seven = p .shows (p .form ∙ seven)
-
   pub opening-within : there ≤ length text
-  opening-within =
-      omega (arith, ap length text-is, length-append (opening m) after-it, length-drop place text, p .within)
+  opening-within = texts.opening-within m text r place (p .form) (p .shows) ground begins (p .within)
 
   refusal-after : refusalFrom r place text ≡ refusalFrom (started m) there text
   refusal-after =
-      let first : firstRefusal (answersFrom place r (drop place text)) ≡ firstRefusal (answersFrom there (started m) after-it) =
-      ap (λ (l : List ℕ). firstRefusal (answersFrom place r l)) text-is ∙
-      ap firstRefusal (answers-alike (opening m ++ after-it) place (r .gone) 0 r) ∙
-      ap (λ (x : Reader). firstRefusal (answersFrom place x (opening m ++ after-it))) same-reader ∙
-      refused-after m (r .sets) (r .gl) (r .gr) place after-it shows-g1 ∙
-      ap (λ (n : ℕ). firstRefusal (answersFrom n (started m) after-it)) (past-is (opening m) place) in
-      let end : endOfText (readerAfter r (drop place text)) ≡ endOfText (readerAfter (started m) after-it) =
-      ap (λ (l : List ℕ). endOfText (readerAfter r l)) text-is ∙
-      ap endOfText (reader-alike (opening m ++ after-it) (r .gone) 0 r) ∙
-      ap (λ (x : Reader). endOfText (readerAfter x (opening m ++ after-it))) same-reader ∙
-      ap endOfText (reader-on (opening m) after-it grounded ∙
-      ap (λ (x : Reader). readerAfter x after-it)
-      (from-in-step m Within.Ground (r .sets) (r .gl) (r .gr) 0 shows-g1 (nothing-after m [] 0 (noted-none m)))) in
-      ap (λ (f : FirstRefusal). firstOf f (refusalAtEnd (endOfText (readerAfter r (drop place text))) (length text))) first ∙
-      ap (λ (e : EndWord). firstOf (firstRefusal (answersFrom there (started m) after-it)) (refusalAtEnd e (length text))) end
+      ap (λ (f : FirstRefusal). firstOf f (refusalAtEnd (endOfText (readerAfter r (drop place text))) (length text)))
+      (first-after m text r place (p .form) (p .shows) ground begins) ∙
+      ap (λ (e : EndWord). firstOf (firstRefusal (answersFrom there (started m) (drop there text))) (refusalAtEnd e (length text)))
+      (end-after m text r place (p .form) (p .shows) ground begins)
 
   written-whole : restFrom to r gl place text ≡ opening to ++ restFrom to (started m) Element.G0 there text
   written-whole =
       let w = beside r gl in
-      ap (λ (l : List ℕ). writtenFrom to w (sequenceFrom (recording 0 r) l)) text-is ∙
-      ap (λ (x : Reader). writtenFrom to w (sequenceFrom x (opening m ++ after-it))) same-reader ∙
-      ap (writtenFrom to w) (opening-whole m (r .sets) (r .gl) (r .gr) shows-g1 after-it) ∙
-      written-opening to w (sequenceFrom (started m) after-it)
+      ap (writtenFrom to w) (sequence-after m text r place (p .form) (p .shows) ground begins) ∙
+      written-opening to w (sequenceFrom (started m) (drop there text))
 
   pub passing-opens : (after : List ℕ) → length after ≡ length buffer →
       (at + length (opening to) ≤ length lent → after ≡ sets buffer at (opening to)) →

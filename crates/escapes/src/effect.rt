@@ -42,7 +42,7 @@ pub const G1: u8 = 3;
 
 pub const G2: u8 = 4;
 
-pub(crate) const G3: u8 = 5;
+pub const G3: u8 = 5;
 
 // A cell of the state: those of the elements by their numbers, then what GL and GR show, the element that a single shift takes, and one
 // that nothing reads.

@@ -97,9 +97,9 @@ const OTHER_BY_NUMBER_SIGN: u8 = 0x23;
 const OTHER_BY_AMPERSAND: u8 = 0x26;
 
 // The finals of the shifts that have no other form.
-const FINAL_OF_LS2: u8 = 0x6E;
+pub const FINAL_OF_LS2: u8 = 0x6E;
 
-const FINAL_OF_LS3: u8 = 0x6F;
+pub const FINAL_OF_LS3: u8 = 0x6F;
 
 const FINAL_OF_LS1R: u8 = 0x7E;
 

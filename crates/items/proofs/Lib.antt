@@ -11,3 +11,5 @@ pub mod SequencesAsWritten
 pub mod SequencesGoOn
 pub mod StatesKept
 pub mod TakenInside
+pub mod TextsReadOn
+pub mod OverTheBuffer

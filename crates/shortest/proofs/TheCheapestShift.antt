@@ -68,7 +68,7 @@ module _ (c : Element → ℕ) where
       (λ h. omega (arith, ltb-false (moving c (cheapest c)) (c gl) h))
 
   -- whatever GL shows, one shift is enough
-  pub one-shift-more : (gl e : Element) → least c gl ≤ 2 + least c e
+  pub one-shift-more : (gl e : Element) → least c gl ≤ length (shiftTo e) + least c e
   one-shift-more gl e =
-      gives-by (λ (n : ℕ). least c gl ≤ 2 + n) (ltb (moving c (cheapest c)) (c e)) (λ h. omega (arith, least-moves gl))
-      (λ h. omega (arith, least-moves gl, cheapest-moves e, shift-length e .1))
+      gives-by (λ (n : ℕ). least c gl ≤ length (shiftTo e) + n) (ltb (moving c (cheapest c)) (c e)) (λ h. omega (arith, least-moves gl))
+      (λ h. omega (arith, least-moves gl, cheapest-moves e))

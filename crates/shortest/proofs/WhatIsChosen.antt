@@ -94,7 +94,7 @@ module _ (c : Element → ℕ) (gl : Element) (bytes : List ℕ) where
 
 -- ---- what is chosen can be written
 
-pub near : (s : Steps) (t : Sets) (gl e : Element) → costOf s t gl ≤ 2 + costOf s t e
+pub near : (s : Steps) (t : Sets) (gl e : Element) → costOf s t gl ≤ length (shiftTo e) + costOf s t e
 unfolding costOf
 near ended t gl e = omega arith
 near (said a s) t gl e = one-shift-more (costs a s t) gl e
@@ -125,6 +125,7 @@ module _ (a : Answer) (s : Steps) (t : Sets) (g0 : t .g0 .kind ≡ Of94) where
             short-at-home a,
             shift-length (home a) .1,
             near s (setsWith t a) (home a) e,
+            shift-length e .1,
           ))
 
   pub best-fits : fits t (cheapest c) a ≡ true

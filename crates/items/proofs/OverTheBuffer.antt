@@ -7,7 +7,7 @@ use lib.ListN.{length, length-append, length-drop}
 use lib.Seq.{drop-drop, sets, sets-eq, take-append-seam, drop-append-add}
 use Rattle.paper.specs.LentBuffers.{over}
 
-length-over : (w d : List ℕ) → length w ≤ length d → length (over w d) ≡ length d
+pub length-over : (w d : List ℕ) → length w ≤ length d → length (over w d) ≡ length d
 length-over w d h = simp (length-append, length-drop) (omega arith)
 
 stores : (w d bs : List ℕ) → length w + length bs ≤ length (over w d) → sets (over w d) (length w) bs ≡ over (w ++ bs) d

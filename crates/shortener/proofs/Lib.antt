@@ -1,0 +1,14 @@
+pub mod SmallNumbers
+pub mod OneTurn
+pub mod ChosenFromTheEnd
+pub mod CodesTell
+pub mod WaysGoOn
+pub mod StepsByItems
+pub mod ItemsAsAnswers
+pub mod UnitsByItems
+pub mod WeighingGoesOn
+pub mod WeighingByItems
+pub mod PuttingGoesOn
+pub mod PuttingByItems
+pub mod OverTheWorkBuffer
+pub mod ShortenedByPasses
