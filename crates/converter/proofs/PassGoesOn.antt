@@ -1,37 +1,35 @@
 -- A pass goes on by one byte: its answer is written, or it is the refusal of the text; or by an opening, which is written whole; and what
 -- holds where the text ends.
-use Prim.Native.Nat.{ℕ, suc, _+_, _<_, _≤_}
+use Prim.Native.Nat.{ℕ, _+_, _<_, _≤_}
 use mathlib.Core.Path.{_≡_, refl, sym, ap, _∙_, subst}
-use mathlib.Core.Bool.{true, false}
+use mathlib.Core.Bool.{true}
 use mathlib.Core.List.{List, [], _∷_, _++_, append-assoc, append-nil}
 use native.Mathlib.Omega.{arith}
-use lib.ListN.{length, drop, getD, length-append, length-drop, drop-of-length-le}
+use lib.ListN.{length, drop, getD, length-append, drop-of-length-le}
 use lib.Seq.{sets}
 use Rattle.paper.specs.Starting.{started, opening}
 use Rattle.paper.specs.Searching.{beginsWith}
 use Rattle.paper.specs.Marks.{recording}
-use Rattle.paper.specs.Answering.{answerTo, answerStanding, endOfText}
-use Rattle.paper.specs.Texts.{Placed, readerAfter, answersFrom}
+use Rattle.paper.specs.Answering.{answerTo, endOfText}
+use Rattle.paper.specs.Texts.{readerAfter, answersFrom}
 use Rattle.paper.specs.LentBuffers.{over}
 use Rattle.paper.specs.Surveying.{refusalOr, firstRefusal, firstOf}
 use Rattle.paper.specs.WrittenForms.{Entry, sequenceFrom, writtenFor, writerAfter, writtenFrom}
 use Rattle.paper.specs.Conversions.{refusalAtEnd, refusalIn, output}
 use Rattle.paper.specs.declared.Form.{Form}
-use Rattle.paper.specs.declared.Form.the-variants.{Seven}
 use Rattle.paper.specs.declared.EndWord.{EndWord}
 use Rattle.paper.specs.declared.Within.{Within}
 use Rattle.paper.specs.declared.Element.{Element}
-use Rattle.paper.specs.declared.Element.the-variants.{G1}
 use Rattle.paper.specs.declared.Standing.{Standing}
 use Rattle.paper.specs.declared.Reader.{Reader}
 use Rattle.paper.specs.declared.Refusal.{Refusal}
 use Rattle.paper.specs.declared.Answer.{Answer}
 use Rattle.paper.specs.declared.FirstRefusal.{FirstRefusal}
 use Rattle.paper.specs.declared.FirstRefusal.the-variants.{First}
-use Rattle.paper.proofs.LawfulAnswers.{IsInStep, Leaves, in-step-lawful}
-use Rattle.paper.proofs.AnswersWithoutTheRecord.{answerOf, recordOf, answers-alike, reader-alike}
-use Rattle.paper.proofs.RecordsNotCompleted.{NotBegins, form-of}
-use Rattle.paper.proofs.OpeningsTakenWhole.{onGround, opening-whole, Alone, byte-alone, byte-elsewhere, ShowsG1, shows-of}
+use Rattle.paper.proofs.LawfulAnswers.{IsInStep}
+use Rattle.paper.proofs.AnswersWithoutTheRecord.{answerOf}
+use Rattle.paper.proofs.RecordsNotCompleted.{form-of}
+use Rattle.paper.proofs.OpeningsTakenWhole.{ShowsG1, shows-of}
 use Rattle.paper.proofs.WrittenAnswersReadBack.{written-opening}
 use Rattle.paper.proofs.WrittenTurnByTurn.{one-turn, sets-by-the-answer}
 use Rattle.items.proofs.ItemsByBytes.{NoRefusal}

@@ -1,9 +1,9 @@
 -- An accepted text refuses nothing and ends whole: a reader that refuses nothing stays in step, and a text that ends inside is refused there.
 use Prim.Native.Nat.{ℕ, suc}
-use mathlib.Core.Path.{_≡_, refl, sym, ap, _∙_}
+use mathlib.Core.Path.{_≡_, refl}
 use mathlib.Core.List.{List, [], _∷_}
 use lib.ListN.{length}
-use Rattle.paper.specs.Words.{Form, Within, Standing, Reader, Refusal, Answer, EndWord, FirstRefusal, Never, First}
+use Rattle.paper.specs.Words.{Form, Within, Standing, Reader, Answer, EndWord, FirstRefusal, Never, First}
 use Rattle.paper.specs.Starting.{started}
 use Rattle.paper.specs.Marks.{recording}
 use Rattle.paper.specs.Answering.{answerTo, endWithin, endStanding}

@@ -1,26 +1,23 @@
 -- A code tells what it was made from: what its answer costs while GL shows an element, and whether the answer's bytes come before a locking
 -- shift. So the costs and the choices that are made from the codes of a sequence are those of the sequence.
 use Prim.Native.Nat.{ℕ, _+_, _-_, _*_, _/_, _%_, _<_, _≤_}
-use mathlib.Core.Path.{_≡_, refl, sym, ap, _∙_, subst}
+use mathlib.Core.Path.{_≡_, refl, sym, ap, _∙_}
 use mathlib.Core.Bool.{Bool, true, false}
-use mathlib.Core.List.{List, [], _∷_, _++_, map}
+use mathlib.Core.List.{List, _∷_, map}
 use native.Mathlib.Omega.{arith}
 use borrow.Author.Tests.{lt-ltb, le-ltb, ne-eqb, eqb-true, eqb-false, ltb-true, ltb-false}
 use lib.Dec.{ltb, eqb}
 use lib.ListN.{length}
 use Rattle.paper.specs.Choice.{_gives_or_}
-use Rattle.paper.specs.CodeTable.{so, si, esc}
+use Rattle.paper.specs.CodeTable.{esc}
 use Rattle.paper.specs.Sets.{setIn}
-use Rattle.paper.specs.Sequences.{finalOfLS2, finalOfLS3}
-use Rattle.paper.specs.Starting.{startingSets}
+use Rattle.paper.specs.Sequences.{finalOfLS2}
 use Rattle.paper.specs.Characters.{bytesSoFar}
 use Rattle.paper.specs.Results.{positionValues}
-use Rattle.paper.specs.WrittenForms.{leftOut, byteFrom, bytesOfAnswer, setsWith, sequenceBytes, intermediatesOf}
+use Rattle.paper.specs.WrittenForms.{leftOut, byteFrom, bytesOfAnswer, setsWith}
 use Rattle.paper.specs.declared.Form.{Form}
 use Rattle.paper.specs.declared.Kind.{Kind}
 use Rattle.paper.specs.declared.Kind.the-variants.{Of94, Of96}
-use Rattle.paper.specs.declared.ControlElement.{ControlElement}
-use Rattle.paper.specs.declared.Intermediates.{Intermediates}
 use Rattle.paper.specs.declared.Element.{Element}
 use Rattle.paper.specs.declared.Element.the-variants.{G0, G1, G2, G3}
 use Rattle.paper.specs.declared.Set.{Set}
@@ -31,13 +28,13 @@ use Rattle.paper.specs.declared.Answer.{Answer}
 use Rattle.paper.proofs.Choices.{impossible, gives-by, gives-has}
 use Rattle.paper.proofs.WrittenBytes.{of-set-bounds}
 use Rattle.paper.proofs.WhatCanBeWritten.{AllOfSet, CanBeWritten, Steps, ended, said, opened}
-use Rattle.shortest.specs.ShortestText.{isShown, isOf94, fits, bytesUnder, far, cost, shiftTo, rank, moving, cheapest, stays, chosen, least}
+use Rattle.shortest.specs.ShortestText.{isOf94, bytesUnder, far, cost, shiftTo, rank, moving, cheapest, stays, chosen, least}
 use Rattle.shortest.specs.ShortestText.{costOf, costs}
 use Rattle.shortest.proofs.BytesOfAnAnswer.{short-at-home, Clear, byte-alone, two-bytes, clear-bytes}
 use Rattle.shortener.specs.Fours.{indexOf}
-use Rattle.shortener.specs.Codes.{ofBlank, ofAlike, ofOpening, first, middle, last, placeOfRank, characterCost, blankCost, bitOf, costBy}
+use Rattle.shortener.specs.Codes.{ofBlank, ofAlike, ofOpening, middle, last, placeOfRank, characterCost, blankCost, bitOf, costBy}
 use Rattle.shortener.specs.Codes.{placeBy, kindBit, blankCode, alikeCode, codeAlike, codeOf, codesOf}
-use Rattle.shortener.specs.Choices.{isBefore, chosenBy, choiceAt, packed, withCode, costsWith, choicesWith, costsBy, choicesBy, choiceIn}
+use Rattle.shortener.specs.Choices.{isBefore, chosenBy, choiceAt, packed, withCode, choicesWith, costsBy, choiceIn}
 
 -- ---- what an answer costs
 

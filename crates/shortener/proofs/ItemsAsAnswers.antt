@@ -1,12 +1,11 @@
 -- The code of an item, and its bytes by what GL shows, are those of the answer that it says.
 use Prim.Native.Nat.{ℕ, _+_, _-_, _*_, _%_, _<_, _≤_}
-use mathlib.Core.Path.{_≡_, refl, sym, ap, _∙_, subst}
-use mathlib.Core.Bool.{Bool, true, false}
-use mathlib.Core.List.{List, [], _∷_, _++_, map}
+use mathlib.Core.Path.{_≡_, refl, sym, ap, _∙_}
+use mathlib.Core.Bool.{false}
+use mathlib.Core.List.{List, [], _∷_, map}
 use native.Mathlib.Omega.{arith}
 use borrow.Author.Tests.{lt-ltb, le-ltb}
 use lib.ListN.{length}
-use Rattle.paper.specs.Choice.{_gives_or_}
 use Rattle.paper.specs.CodeTable.{bit8, esc}
 use Rattle.paper.specs.Sets.{setIn}
 use Rattle.paper.specs.Sequences.{finalOfFunction}
@@ -14,7 +13,6 @@ use Rattle.paper.specs.Characters.{bytesSoFar}
 use Rattle.paper.specs.Results.{elementNumber, positionValues, wordOf, charWord, controlWord}
 use Rattle.paper.specs.WrittenForms.{leftOut, sequenceBytes, intermediatesOf, byteFrom, bytesOfAnswer}
 use Rattle.paper.specs.declared.Form.{Form}
-use Rattle.paper.specs.declared.Kind.{Kind}
 use Rattle.paper.specs.declared.ControlElement.{ControlElement}
 use Rattle.paper.specs.declared.Intermediates.{Intermediates}
 use Rattle.paper.specs.declared.Element.{Element}
@@ -93,7 +91,12 @@ position-count (PositionBytes.One a) = refl
 position-count (PositionBytes.Two a b) = refl
 position-count (PositionBytes.Three a b c) = refl
 
-module _ (cells : List ℕ) (t : Sets) (kinds : (e : Element) → kindOf (sizeIn cells (elementNumber e)) ≡ setIn t e .kind) (x : Effect) (bytes : List ℕ) where
+module _
+    (cells : List ℕ)
+    (t : Sets)
+    (kinds : (e : Element) → kindOf (sizeIn cells (elementNumber e)) ≡ setIn t e .kind)
+    (x : Effect)
+    (bytes : List ℕ) where
   pub code-said : (a : Answer) → leftOut a ≡ false → CanBeWritten t a → (x .word .0 ≡ wordOf a) → (bytes ≡ saidBytes a) → Said a (x .value) →
       codeBy cells x bytes ≡ codeOf t a
   unfolding codeBy

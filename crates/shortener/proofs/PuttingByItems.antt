@@ -1,7 +1,7 @@
 -- The output goes on by what the item is, for any lent buffer: whatever the state, the numbers and the buffer are then, if they are what they
 -- should be.
 use Prim.Native.Nat.{ℕ, _+_, _<_, _≤_}
-use mathlib.Core.Path.{_≡_, refl, sym, ap, _∙_, subst}
+use mathlib.Core.Path.{_≡_, sym, ap, _∙_, subst}
 use mathlib.Core.Bool.{true, false}
 use mathlib.Core.List.{List}
 use native.Mathlib.Omega.{arith}
@@ -16,7 +16,7 @@ use Rattle.items.specs.Items.{itemOf, openingWord, itemAt}
 use Rattle.items.specs.declared.item.Item as declared
 use Rattle.shortener.specs.Fours.{indexOf}
 use Rattle.shortener.specs.Under.{under, ledBy, isUnit, Fit}
-use Rattle.shortener.specs.Putting.{elementFor, bytesFor, answerPut, openingPut, Putting}
+use Rattle.shortener.specs.Putting.{bytesFor, answerPut, openingPut, Putting}
 use Rattle.shortener.specs.declared.put.Written.{Written}
 use Rattle.shortener.proofs.UnitsByItems.{opens-it, shifts-it, says-it}
 use Rattle.shortener.proofs.PuttingGoesOn.{led-is, buffer-long, opening-fits, opening-put, to-show, answer-bytes, choice-within}

@@ -1,12 +1,11 @@
 -- The output goes on by an item: an opening is written whole, an answer after the shift that was chosen for it, and a shift is not written.
-use Prim.Native.Nat.{ℕ, suc, _+_, _<_, _≤_}
-use mathlib.Core.Path.{_≡_, refl, sym, ap, _∙_, subst}
-use mathlib.Core.Bool.{Bool, true, false}
+use Prim.Native.Nat.{ℕ, _+_, _<_, _≤_}
+use mathlib.Core.Path.{_≡_, refl, sym, ap, _∙_}
+use mathlib.Core.Bool.{false}
 use mathlib.Core.List.{List, [], _∷_, _++_, append-assoc, append-nil}
 use native.Mathlib.Omega.{arith}
-use lib.ListN.{length, drop, getD, length-append, length-drop}
+use lib.ListN.{length, getD, length-append}
 use lib.Seq.{sets, getD-at}
-use Rattle.paper.specs.Choice.{_gives_or_}
 use Rattle.paper.specs.Starting.{startingSets, opening}
 use Rattle.paper.specs.LentBuffers.{over}
 use Rattle.paper.specs.WrittenForms.{leftOut, sequenceOf, setsWith}
@@ -15,12 +14,12 @@ use Rattle.paper.specs.declared.Element.{Element}
 use Rattle.paper.specs.declared.Element.the-variants.{G0, G1, G2, G3}
 use Rattle.paper.specs.declared.Sets.{Sets}
 use Rattle.paper.specs.declared.Answer.{Answer}
-use Rattle.paper.proofs.WhatCanBeWritten.{CanBeWritten, Steps, ended, said, opened}
+use Rattle.paper.proofs.WhatCanBeWritten.{CanBeWritten, Steps, said, opened}
 use Rattle.items.specs.States.{startingCells}
 use Rattle.items.proofs.OverTheBuffer.{length-over, over-more}
-use Rattle.shortest.specs.ShortestText.{stepsOf, isShown, bytesUnder, shiftTo, shiftFrom, chosen, costs, shortestFrom}
+use Rattle.shortest.specs.ShortestText.{stepsOf, bytesUnder, shiftFrom, chosen, costs, shortestFrom}
 use Rattle.shortest.specs.Shortening.{shortestText}
-use Rattle.shortener.specs.Fours.{indexOf, elementAt}
+use Rattle.shortener.specs.Fours.{indexOf}
 use Rattle.shortener.specs.Codes.{ofOpening, codeOf, codesOf}
 use Rattle.shortener.specs.Choices.{choicesWith, costsBy, choicesBy, choiceIn}
 use Rattle.shortener.specs.Under.{ledBy}

@@ -1,6 +1,6 @@
 -- What the call answers and leaves in the two lent buffers, by the tests in their order and then by what the passes give.
 use Prim.Native.Nat.{ℕ, _<_, _≤_}
-use mathlib.Core.Path.{_≡_, refl, sym, ap, _∙_, subst}
+use mathlib.Core.Path.{_≡_, sym, ap, _∙_, subst}
 use mathlib.Core.List.{List}
 use lib.ListN.{length, replicate}
 use Rattle.paper.specs.LentBuffers.{over}

@@ -1,29 +1,26 @@
 -- A pass over an accepted text goes on by the item at its place. An opening is the next step, whole; a shift is none; every other item says the
 -- answer that is the next step. Nothing is refused, and at the end no step is left.
-use Prim.Native.Nat.{ℕ, suc, _+_, _<_, _≤_}
+use Prim.Native.Nat.{ℕ, _+_, _<_, _≤_}
 use mathlib.Core.Path.{_≡_, refl, sym, ap, _∙_, subst}
-use mathlib.Core.Logic.{_⊎_, inl, inr, ⊎-elim}
+use mathlib.Core.Logic.{_⊎_, inl, ⊎-elim}
 use mathlib.Core.Bool.{Bool, true, false}
 use mathlib.Core.List.{List, [], _∷_}
 use native.Mathlib.Omega.{arith}
-use native.Mathlib.Numerals.{add-one}
 use lib.ListN.{length, getD, drop, drop-of-length-le}
 use Rattle.paper.specs.Choice.{_gives_or_}
 use Rattle.paper.specs.Starting.{startingSets, started, opening}
 use Rattle.paper.specs.Marks.{recording}
-use Rattle.paper.specs.Answering.{answerTo, endStanding, endOfText}
-use Rattle.paper.specs.Texts.{readerAfter, answersFrom, answersOf, endWord}
+use Rattle.paper.specs.Answering.{answerTo, endOfText}
+use Rattle.paper.specs.Texts.{readerAfter, answersFrom}
 use Rattle.paper.specs.Surveying.{refusalOr, firstRefusal}
-use Rattle.paper.specs.Results.{wordOf, refusedWord}
+use Rattle.paper.specs.Results.{wordOf}
 use Rattle.paper.specs.WrittenForms.{Entry, given, leftOut, withAnswer, sequenceFrom, sequenceOf, setsWith}
 use Rattle.paper.specs.Conversions.{Accepted}
 use Rattle.paper.specs.declared.Form.{Form}
 use Rattle.paper.specs.declared.Kind.the-variants.{Of94}
 use Rattle.paper.specs.declared.Sets.{Sets}
-use Rattle.paper.specs.declared.Within.{Within}
 use Rattle.paper.specs.declared.Standing.{Standing}
 use Rattle.paper.specs.declared.Reader.{Reader}
-use Rattle.paper.specs.declared.Refusal.{Refusal}
 use Rattle.paper.specs.declared.Answer.{Answer}
 use Rattle.paper.specs.declared.Answered.{Answered}
 use Rattle.paper.specs.declared.EndWord.{EndWord}
@@ -33,12 +30,11 @@ use Rattle.paper.proofs.Choices.{impossible}
 use Rattle.paper.proofs.AnswersWithoutTheRecord.{answerOf}
 use Rattle.paper.proofs.RecordsNotCompleted.{form-of}
 use Rattle.paper.proofs.OpeningsTakenWhole.{withOpening, shows-of}
-use Rattle.paper.proofs.WhatCanBeWritten.{CanBeWritten, Steps, ended, said, opened, entriesOf, AllCanBeWritten, InSteps, Stands}
+use Rattle.paper.proofs.WhatCanBeWritten.{Steps, ended, said, opened, entriesOf, AllCanBeWritten, InSteps, Stands}
 use Rattle.paper.proofs.WhatIsReadCanBeWritten.{rest-can-be-written}
 use Rattle.paper.proofs.WrittenTurnByTurn.{later-refuse-nothing, sets-by-the-answer}
 use Rattle.paper.proofs.WrittenAnswersReadBack.{keeps-g0}
 use Rattle.paper.proofs.AcceptedTextsEndWhole.{refuses-nothing, accepted-ends-whole}
-use Rattle.escapes.specs.declared.effect.Effect.{Effect}
 use Rattle.items.specs.States.{changed, startingCells, Single}
 use Rattle.items.specs.States as states
 use Rattle.items.specs.Items.{Item, openingWord, itemAt}

@@ -1,14 +1,14 @@
 -- What the item at a place is to a pass over an accepted text, by its word: an opening, a shift, or a unit whose code and bytes are those of the
 -- answer that is the next step.
 use Prim.Native.Nat.{ℕ, _<_}
-use mathlib.Core.Path.{_≡_, refl, sym, ap, _∙_, subst}
+use mathlib.Core.Path.{_≡_, sym, ap, _∙_, subst}
 use mathlib.Core.Bool.{Bool, true, false}
-use mathlib.Core.List.{List, [], _∷_}
+use mathlib.Core.List.{List}
 use lib.ListN.{length}
-use Rattle.paper.specs.Choice.{_gives_or_, oneOf}
+use Rattle.paper.specs.Choice.{_gives_or_}
 use Rattle.paper.specs.Sets.{setIn}
 use Rattle.paper.specs.Starting.{startingSets}
-use Rattle.paper.specs.Results.{elementNumber, wordOf, nothingYetWord, shiftWord}
+use Rattle.paper.specs.Results.{elementNumber, wordOf}
 use Rattle.paper.specs.WrittenForms.{leftOut, setsWith}
 use Rattle.paper.specs.declared.Form.{Form}
 use Rattle.paper.specs.declared.Element.{Element}
@@ -22,7 +22,6 @@ use Rattle.items.specs.States.{sizeIn, changed, startingCells}
 use Rattle.items.specs.Items.{itemOf, openingWord, itemAt}
 use Rattle.items.specs.declared.item.Item as declared
 use Rattle.items.proofs.CharactersGoOn.{kind-in}
-use Rattle.items.proofs.ItemsByBytes.{saidBytes, Said}
 use Rattle.shortest.specs.ShortestText.{bytesUnder}
 use Rattle.shortener.specs.Fours.{indexOf}
 use Rattle.shortener.specs.Codes.{codeOf}

@@ -1,6 +1,6 @@
 -- Going forward keeps the least sum: what it has cost to come so far with an element in GL, and what is left costs from there. At the end
 -- nothing is left, and the least of the ways is the length up to there.
-use Prim.Native.Nat.{ℕ, _+_, _<_, _≤_}
+use Prim.Native.Nat.{ℕ, _+_, _≤_}
 use mathlib.Core.Path.{_≡_, refl, sym, subst}
 use native.Mathlib.Omega.{arith}
 use borrow.Author.Tests.{ltb-true, ltb-false}
@@ -14,7 +14,6 @@ use Rattle.paper.specs.declared.Answer.{Answer}
 use Rattle.paper.proofs.Choices.{gives-by}
 use Rattle.paper.proofs.WhatCanBeWritten.{Steps, said}
 use Rattle.shortest.specs.ShortestText.{cost, shiftTo, moving, cheapest, least, costOf, costs}
-use Rattle.shortest.proofs.TheCheapestShift.{least-moves, shift-length}
 use Rattle.shortest.proofs.WhatIsChosen.{near}
 use Rattle.shortener.specs.Fours.{lower, lowestOf}
 use Rattle.shortener.specs.Ways.{firstWays, with, further, Closed}
@@ -124,7 +123,9 @@ module _ (ways : Element → ℕ) (closed : Closed ways) (a : Answer) (s : Steps
   said-cost e = refl
 
   least-low : (e : Element) → least c e ≤ c e
-  least-low e = gives-by (λ (n : ℕ). n ≤ c e) (ltb (moving c (cheapest c)) (c e)) (λ h. omega (arith, ltb-true (moving c (cheapest c)) (c e) h)) (λ h. omega arith)
+  least-low e =
+      gives-by (λ (n : ℕ). n ≤ c e) (ltb (moving c (cheapest c)) (c e)) (λ h. omega (arith, ltb-true (moving c (cheapest c)) (c e) h))
+      (λ h. omega arith)
 
   now-low : (e : Element) → now-left ≤ ways e + c e
   now-low e = omega (arith, lowest-at (with ways (costOf (said a s) t)) e, said-cost e, least-low e)

@@ -1,11 +1,10 @@
 -- Going over a text goes on by what its item is: whatever the state, the numbers and the work buffer are then, if they are what they should be.
 use Prim.Native.Nat.{ℕ, _<_}
-use mathlib.Core.Path.{_≡_, refl, sym, ap, _∙_, subst}
-use mathlib.Core.Bool.{Bool, true, false}
+use mathlib.Core.Path.{_≡_, refl, sym, _∙_, subst}
+use mathlib.Core.Bool.{true, false}
 use mathlib.Core.List.{List, []}
 use lib.Dec.{ltb}
 use lib.ListN.{length}
-use Rattle.paper.specs.Choice.{_gives_or_}
 use Rattle.paper.specs.declared.Form.{Form}
 use Rattle.paper.proofs.Choices.{gives-has}
 use Rattle.items.specs.Pieces.{bytesIn, Small}
@@ -14,7 +13,7 @@ use Rattle.items.specs.Items.{itemOf, openingWord, itemAt}
 use Rattle.items.specs.declared.item.Item as declared
 use Rattle.shortener.specs.Codes.{ofOpening}
 use Rattle.shortener.specs.Under.{codeBy, isUnit, Fit}
-use Rattle.shortener.specs.Weighing.{unitMore, openingMore, answerMore, more, put, Weighing}
+use Rattle.shortener.specs.Weighing.{openingMore, answerMore, more, put, Weighing}
 use Rattle.shortener.specs.declared.weigh.Weighed.{Weighed}
 use Rattle.shortener.proofs.UnitsByItems.{opens-it, shifts-it, says-it}
 use Rattle.shortener.proofs.WeighingGoesOn.{opening-more, answer-more, shift-more}
@@ -22,7 +21,8 @@ use Rattle.shortener.proofs.WeighingGoesOn.{opening-more, answer-more, 
 module _ {m : Form} {text lent cells : List ℕ} {v : Weighed} {work : List ℕ} (p : Weighing m text lent cells v work)
     (inside : v .place < length text) (r : declared.Item) (is : itemOf r ≡ itemAt m cells text (v .place)) where
   -- the place after it
-  more-onward : (else result : Weighed) → else .place ≡ r .place → v .place < r .place → result ≡ more v (r .place) work else → v .place < result .place
+  more-onward : (else result : Weighed) → else .place ≡ r .place → v .place < r .place → result ≡ more v (r .place) work else →
+      v .place < result .place
   more-onward else result place-is onward result-is =
       subst (λ (w : Weighed). v .place < w .place) (sym result-is)
       (gives-has (λ (w : Weighed). v .place < w .place) (ltb (v .count) (length work)) onward

@@ -1,6 +1,6 @@
 -- Going over a text goes on by an item: an opening or an answer is one unit more, whose code is written where there is room and which is weighed
 -- where there is none; a shift is no unit.
-use Prim.Native.Nat.{ℕ, suc, _+_, _*_, _<_, _≤_}
+use Prim.Native.Nat.{ℕ, suc, _+_, _<_, _≤_}
 use mathlib.Core.Path.{_≡_, refl, sym, ap, _∙_, subst}
 use mathlib.Core.Bool.{Bool, true, false}
 use mathlib.Core.List.{List, [], _∷_, _++_, append-assoc, append-nil}
@@ -20,7 +20,6 @@ use Rattle.paper.specs.declared.Element.{Element}
 use Rattle.paper.specs.declared.Element.the-variants.{G0, G1, G2, G3}
 use Rattle.paper.specs.declared.Sets.{Sets}
 use Rattle.paper.specs.declared.Answer.{Answer}
-use Rattle.paper.proofs.Choices.{gives-by}
 use Rattle.paper.proofs.WhatCanBeWritten.{Steps, ended, said, opened}
 use Rattle.items.specs.States.{startingCells}
 use Rattle.shortest.specs.ShortestText.{stepsOf, cost, costOf, shortestFrom}
@@ -179,7 +178,9 @@ module _ {m : Form} {text lent cells : List ℕ} {v : Weighed} {work : List ℕ}
       let w : Weight m text (said x then) t v = subst (λ (s : Steps). Weight m text s t v) is (p .weight none) in
       let same : ofFour (fourOf (further ways (costBy (codeOf t x)))) ≡ further ways (cost t x) =
       same-four (further ways (costBy (codeOf t x))) ∙ ap (further ways) (λ i e. cost-told t x e i) in
-      let sums : lowestOf (with (ofFour (fourOf (further ways (costBy (codeOf t x))))) (costOf then u)) ≡ lowestOf (with (further ways (cost t x)) (costOf then u)) =
+      let sums :
+      lowestOf (with (ofFour (fourOf (further ways (costBy (codeOf t x))))) (costOf then u)) ≡
+      lowestOf (with (further ways (cost t x)) (costOf then u)) =
       ap (λ (n : Element → ℕ). lowestOf (with n (costOf then u))) same in
       record {
         closed = subst Closed (sym same) (further-closed ways (cost t x));

@@ -9,7 +9,7 @@ use Rattle.paper.specs.Choice.{_gives_or_}
 use Rattle.paper.specs.declared.Element.{Element}
 use Rattle.paper.specs.declared.Element.the-variants.{G0, G1, G2, G3}
 use Rattle.shortest.specs.ShortestText.{moving, cheapest, least}
-use Rattle.shortener.specs.Fours.{indexOf, elementAt}
+use Rattle.shortener.specs.Fours.{indexOf}
 use Rattle.shortener.specs.Codes.{ofOpening, first, middle, costBy, placeBy}
 
 -- whether bytes at a place in byte order come before a shift; LS2 and LS3 come after what stands in the middle

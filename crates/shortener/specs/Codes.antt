@@ -3,7 +3,6 @@
 -- and its number of bytes; SPACE and DELETE the elements that hold a set of 94 type; all else, which is written alike whatever GL shows, its
 -- place in byte order and its number of bytes.
 use Prim.Native.Nat.{ℕ, _+_, _-_, _*_, _/_, _%_}
-use mathlib.Core.Bool.{Bool, true, false}
 use mathlib.Core.List.{List, [], _∷_}
 use lib.Dec.{ltb, eqb}
 use lib.ListN.{length}

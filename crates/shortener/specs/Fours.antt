@@ -1,6 +1,6 @@
 -- No rule of the paper: for the contracts of private functions.
 -- Four numbers, one for each element, and the elements by their places from G0 on.
-use Prim.Native.Nat.{ℕ, _+_, _≤_}
+use Prim.Native.Nat.{ℕ, _≤_}
 use lib.Dec.{ltb, eqb}
 use Rattle.paper.specs.Choice.{_gives_or_}
 use Rattle.paper.specs.Results.{elementNumber}

@@ -11,7 +11,6 @@ use Rattle.paper.specs.Choice.{_gives_or_, oneOf}
 use Rattle.paper.specs.CodeTable.{bit8, esc}
 use Rattle.paper.specs.Sequences.{functionOfSS2, functionOfSS3, finalOfFunction}
 use Rattle.paper.specs.Results.{elementNumber, nothingYetWord, charWord, spaceWord, deleteWord, controlWord, shiftWord}
-use Rattle.paper.specs.declared.Element.{Element}
 use Rattle.paper.specs.declared.Element.the-variants.{G2, G3}
 use Rattle.charsets.specs.Sizes.{kindOf}
 use Rattle.escapes.specs.declared.effect.Effect.{Effect}

@@ -1,6 +1,6 @@
 -- No rule of the paper: for the contracts of private functions.
 -- How far a text has been gone over: with no room for codes it is weighed, with room for all of them they are written.
-use Prim.Native.Nat.{ℕ, _+_, _*_, _<_, _≤_}
+use Prim.Native.Nat.{ℕ, _+_, _*_, _≤_}
 use mathlib.Core.Path.{_≡_}
 use mathlib.Core.List.{List, _++_}
 use lib.Dec.{ltb}

@@ -1,27 +1,25 @@
 -- The bytes of an answer, by what GL shows: there is an element that shows them in four bytes at the most; and wherever they can be
 -- written, they begin as no locking shift does, so that byte order tells the two apart.
-use Prim.Native.Nat.{ℕ, _+_, _*_, _%_, _<_, _≤_}
-use mathlib.Core.Path.{_≡_, refl, sym, ap, _∙_, subst}
+use Prim.Native.Nat.{ℕ, _<_, _≤_}
+use mathlib.Core.Path.{_≡_, refl, sym, ap, subst}
 use mathlib.Core.Bool.{Bool, true, false}
-use mathlib.Core.List.{List, [], _∷_, _++_, map}
+use mathlib.Core.List.{List, [], _∷_, map}
 use native.Mathlib.Omega.{arith}
-use borrow.Author.Tests.{eqb-true, eqb-false}
-use lib.Dec.{eqb}
+use borrow.Author.Tests.{eqb-false}
 use lib.ListN.{length}
 use Rattle.paper.specs.Choice.{_gives_or_}
 use Rattle.paper.specs.CodeTable.{so, si, esc}
 use Rattle.paper.specs.Sets.{space, delete, setIn, setByte}
 use Rattle.paper.specs.Sequences.{sequenceByte, meaningOf, meaningOfNone, shiftOrOther, finalOfLS2, finalOfLS3, firstFinal, lastFinal}
-use Rattle.paper.specs.Sequences.{intermediateOf, several, isShort}
+use Rattle.paper.specs.Sequences.{intermediateOf, several}
 use Rattle.paper.specs.Choice.{between}
 use Rattle.paper.specs.Results.{positionValues}
-use Rattle.paper.specs.WrittenForms.{sequenceBytes, takesShort, intermediatesOf, byteFrom, characterBytes, bytesOfAnswer, leftOut}
+use Rattle.paper.specs.WrittenForms.{sequenceBytes, takesShort, intermediatesOf, byteFrom, characterBytes, leftOut}
 use Rattle.paper.specs.declared.Form.{Form}
 use Rattle.paper.specs.declared.ControlElement.{ControlElement}
 use Rattle.paper.specs.declared.Kind.{Kind}
 use Rattle.paper.specs.declared.Kind.the-variants.{Of94, Of96}
 use Rattle.paper.specs.declared.Count.{Count}
-use Rattle.paper.specs.declared.Set.{Set}
 use Rattle.paper.specs.declared.SetByte.{SetByte}
 use Rattle.paper.specs.declared.SequenceByte.{SequenceByte}
 use Rattle.paper.specs.declared.Element.{Element}
@@ -32,10 +30,10 @@ use Rattle.paper.specs.declared.Meaning.{Meaning}
 use Rattle.paper.specs.declared.GraphicArea.{GraphicArea}
 use Rattle.paper.specs.declared.PositionBytes.{PositionBytes}
 use Rattle.paper.specs.declared.Answer.{Answer}
-use Rattle.paper.proofs.Choices.{impossible, gives-by, gives-has, between-bounds}
+use Rattle.paper.proofs.Choices.{impossible, gives-has, between-bounds}
 use Rattle.paper.proofs.WrittenBytes.{of-set-bounds, intermediate-bounds, final-is}
 use Rattle.paper.proofs.WhatCanBeWritten.{AllOfSet, AllIntermediate, CanBeWritten}
-use Rattle.shortest.specs.ShortestText.{isShown, isTaken, isOf94, fits, bytesUnder, rank, shiftTo}
+use Rattle.shortest.specs.ShortestText.{isShown, isTaken, isOf94, fits, bytesUnder}
 
 -- ---- where an answer can be written
 

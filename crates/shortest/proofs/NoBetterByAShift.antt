@@ -1,21 +1,21 @@
 -- A locking shift first is no better: whatever it leads to is a way that was weighed, or two shifts where one is enough. And what an answer
 -- is written as, with any text after it that is not before the shortest, is no better either.
-use Prim.Native.Nat.{ℕ, _<_}
-use mathlib.Core.Path.{_≡_, refl}
-use mathlib.Core.Bool.{true, false}
+use Prim.Native.Nat.{ℕ}
+use mathlib.Core.Path.{_≡_}
+use mathlib.Core.Bool.{true}
 use mathlib.Core.List.{List, _++_}
 use native.Mathlib.Omega.{arith}
-use lib.ListN.{length, length-append}
-use Rattle.paper.specs.WrittenForms.{leftOut, setsWith}
+use lib.ListN.{length-append}
+use Rattle.paper.specs.WrittenForms.{setsWith}
 use Rattle.paper.specs.declared.Kind.the-variants.{Of94}
 use Rattle.paper.specs.declared.Element.{Element}
 use Rattle.paper.specs.declared.Sets.{Sets}
 use Rattle.paper.specs.declared.Answer.{Answer}
-use Rattle.paper.proofs.WhatCanBeWritten.{CanBeWritten, Steps, ended, said, opened, AllCanBeWritten}
+use Rattle.paper.proofs.WhatCanBeWritten.{Steps, ended, said, opened, AllCanBeWritten}
 use Rattle.paper.proofs.WrittenAnswersReadBack.{keeps-g0}
 use Rattle.shortest.specs.ByteOrder.{NotAfter}
 use Rattle.shortest.specs.ShortestText.{fits, bytesUnder, shiftTo, cheapest, costs, shortestFrom}
-use Rattle.shortest.proofs.TextsInOrder.{by-length, nothing-first, not-after-itself, not-after-on, not-after-both}
+use Rattle.shortest.proofs.TextsInOrder.{by-length, nothing-first, not-after-on, not-after-both}
 use Rattle.shortest.proofs.TheCheapestShift.{shift-length}
 use Rattle.shortest.proofs.WhatIsChosen.{stays-where-it-fits, best-fits, onward, by-the-way, Long, long-text}
 use Rattle.shortest.proofs.NoWayComesBefore.{not-after-going-on, not-after-a-shift}

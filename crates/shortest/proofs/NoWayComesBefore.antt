@@ -1,33 +1,25 @@
 -- No way to go on at an answer comes before the one that is taken: not what it is written as while GL shows what it shows, and not one
 -- locking shift and what it is written as then. By cost, which is length, and among those that are as long by rank.
-use Prim.Native.Nat.{ℕ, _+_, _*_, _<_, _≤_}
-use mathlib.Core.Path.{_≡_, refl, sym, ap, _∙_, subst}
-use mathlib.Core.Bool.{Bool, true, false}
-use mathlib.Core.Logic.{_⊎_, inl, inr, ⊎-elim}
-use mathlib.Core.List.{List, [], _∷_, _++_}
+use Prim.Native.Nat.{ℕ, _+_, _<_}
+use mathlib.Core.Path.{_≡_, subst}
+use mathlib.Core.Bool.{true, false}
+use mathlib.Core.Logic.{_⊎_, ⊎-elim}
+use mathlib.Core.List.{List, _++_}
 use native.Mathlib.Omega.{arith}
 use native.Mathlib.Nat.{eq-or-lt-of-le}
-use borrow.Author.Tests.{ltb-true, ltb-false, eqb-true, eqb-false, lt-ltb, le-ltb}
-use lib.Dec.{ltb, eqb}
-use lib.ListN.{length, length-append}
-use Rattle.paper.specs.Choice.{_gives_or_}
-use Rattle.paper.specs.Starting.{startingSets, opening}
+use lib.ListN.{length}
 use Rattle.paper.specs.WrittenForms.{leftOut, setsWith}
-use Rattle.paper.specs.declared.Form.{Form}
 use Rattle.paper.specs.declared.Kind.the-variants.{Of94}
 use Rattle.paper.specs.declared.Element.{Element}
-use Rattle.paper.specs.declared.Element.the-variants.{G0, G1, G2, G3}
 use Rattle.paper.specs.declared.Sets.{Sets}
 use Rattle.paper.specs.declared.Answer.{Answer}
-use Rattle.paper.proofs.Choices.{impossible, gives-by}
-use Rattle.paper.proofs.WhatCanBeWritten.{CanBeWritten, Steps, ended, said, opened, AllCanBeWritten}
-use Rattle.paper.proofs.WrittenAnswersReadBack.{keeps-g0}
+use Rattle.paper.proofs.WhatCanBeWritten.{CanBeWritten, Steps, said}
 use Rattle.shortest.specs.ByteOrder.{NotAfter}
-use Rattle.shortest.specs.ShortestText.{isShown, fits, bytesUnder, far, cost, shiftTo, shiftFrom, rank, moving, cheapest, stays, chosen}
-use Rattle.shortest.specs.ShortestText.{least, costOf, costs, shortestFrom}
+use Rattle.shortest.specs.ShortestText.{fits, bytesUnder, shiftTo, rank, moving, cheapest, stays}
+use Rattle.shortest.specs.ShortestText.{costs, shortestFrom}
 use Rattle.shortest.proofs.TextsInOrder.{by-length, by-bytes, not-after-itself}
-use Rattle.shortest.proofs.TheCheapestShift.{shift-length, rank-of-shift, key, cheapest-key, cheapest-moves, one-shift-more}
-use Rattle.shortest.proofs.BytesOfAnAnswer.{home, shown-itself, fits-at-home, short-at-home, Clear, clear-bytes}
+use Rattle.shortest.proofs.TheCheapestShift.{cheapest-key, cheapest-moves}
+use Rattle.shortest.proofs.BytesOfAnAnswer.{Clear, clear-bytes}
 use Rattle.shortest.proofs.ShiftsInOrder.{shifts-in-order, one-shift-of-a-rank, bytes-first, shift-first}
 use Rattle.shortest.proofs.WhatIsChosen.{Stays, stays-where-it-fits, best-fits, onward, by-the-way, after, Long, onward-length, shifted-length}
 

@@ -36,7 +36,7 @@ use Rattle.paper.proofs.WhatIsReadCanBeWritten.{fair-standing, not-refused, pas
 use Rattle.paper.proofs.WrittenTurnByTurn.{later-refuse-nothing, sets-by-the-answer}
 use Rattle.paper.proofs.WrittenAnswersReadBack.{keeps-g0}
 use Rattle.shortest.specs.ByteOrder.{NotAfter}
-use Rattle.shortest.specs.ShortestText.{fits, bytesUnder, shiftTo, shortestFrom}
+use Rattle.shortest.specs.ShortestText.{shiftTo, shortestFrom}
 use Rattle.shortest.proofs.TextsInOrder.{nothing-first, not-after-itself, not-after-on, not-after-both}
 use Rattle.shortest.proofs.NoBetterByAShift.{answer-first, no-better-by-a-shift}
 use Rattle.shortest.proofs.ReadInSevenBits.{Came, Outcome, waiting, shifting, saying, refusing, after-byte}

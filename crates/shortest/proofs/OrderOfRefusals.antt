@@ -1,17 +1,18 @@
 -- The refusals of the call, in their order and with their places: 13, then 14, then what the text is refused by, then 9; and where there is
--- none the length of the text that is written.
+-- none the length of the text that is written. A refusal leaves both lent buffers; a success leaves the work buffer's first 65,536 bytes zero.
 use Prim.Native.Nat.{ℕ, _<_, _≤_}
-use mathlib.Core.Path.{_≡_, refl, ap, _∙_}
-use mathlib.Core.List.{List}
+use mathlib.Core.Path.{_≡_, ap, _∙_}
+use mathlib.Core.List.{List, _++_}
 use borrow.Author.Tests.{le-leb, lt-leb}
-use lib.ListN.{length}
+use lib.ListN.{length, drop, replicate, length-replicate}
+use Rattle.paper.specs.LentBuffers.{over}
 use Rattle.paper.specs.Conversions.{refusalIn, intoRoom}
 use Rattle.paper.specs.declared.Form.{Form}
 use Rattle.paper.specs.declared.Refusal.{Refusal}
 use Rattle.paper.specs.declared.FirstRefusal.{FirstRefusal}
 use Rattle.paper.specs.declared.FirstRefusal.the-variants.{Never, First}
 use Rattle.paper.specs.declared.Converted.{Converted}
-use Rattle.shortest.specs.Shortening.{longestInput, workLength, shortestText, shortening}
+use Rattle.shortest.specs.Shortening.{longestInput, workLength, shortestText, shortening, bufferAfter, workAfter}
 
 module _ (m : Form) (text : List ℕ) (room work : ℕ) where
   pub long-input : longestInput < length text → shortening m text room work ≡ Converted.Refused Refusal.InputTooLong 0
@@ -41,3 +42,15 @@ module _ (m : Form) (text : List ℕ) (room work : ℕ) where
 
         pub done : n ≤ room → shortening m text room work ≡ Converted.Done n
         done fits = both-tested ∙ ap (λ (x : FirstRefusal). intoRoom x n room) accepted ∙ rw (le-leb n room fits)
+
+  -- ---- what the two lent buffers hold afterwards
+
+  module _ (buffer lent : List ℕ) where
+    pub refusal-leaves : (r : Refusal) (at : ℕ) → shortening m text (length buffer) (length lent) ≡ Converted.Refused r at →
+        (bufferAfter m text buffer lent ≡ buffer) × (workAfter m text buffer lent ≡ lent)
+    refusal-leaves r at e = (rw (e), rw (e))
+
+    pub success-leaves : (n : ℕ) → shortening m text (length buffer) (length lent) ≡ Converted.Done n →
+        (bufferAfter m text buffer lent ≡ over (shortestText m text) buffer) ×
+        (workAfter m text buffer lent ≡ replicate 65536 0 ++ drop 65536 lent)
+    success-leaves n e = (rw (e), rw (e, length-replicate {A = ℕ} 65536 0))

@@ -7,18 +7,17 @@ use mathlib.Core.List.{List, [], _∷_, _++_, append-assoc, map}
 use native.Mathlib.Omega.{arith}
 use borrow.Author.Tests.{eqb-true, leb-true, leb-false}
 use lib.Dec.{ltb, leb, eqb}
-use lib.ListN.{length, length-append}
 use Rattle.paper.specs.Choice.{_gives_or_, between}
-use Rattle.paper.specs.CodeTable.{areaOf, formHas, columnArea, formHasColumn, positionOf, lastOfC0, lastOfGL, lastOfC1, so, si, esc}
+use Rattle.paper.specs.CodeTable.{areaOf, formHas, columnArea, formHasColumn, positionOf, lastOfC0, lastOfGL, so, si, esc}
 use Rattle.paper.specs.Sets.{space, delete, setIn, bytesOf, setByte}
 use Rattle.paper.specs.Sequences.{functionOfSS2, functionOfSS3, lastFunction, sequenceByte, c1Function, meaningOf, shiftOrOther}
 use Rattle.paper.specs.Sequences.{finalOfFunction, meaningOfNone, designation, byIntermediate, meaningOfOne, severalBytes, meaningOfTwo}
 use Rattle.paper.specs.Sequences.{finalOfLS2, finalOfLS3, firstFinal, lastFinal, isFinal, intermediateOf, several, isShort, shortDesignation}
-use Rattle.paper.specs.Sequences.{intermediateOfControls, rightShift}
+use Rattle.paper.specs.Sequences.{intermediateOfControls}
 use Rattle.paper.specs.Characters.{c0Byte, byteIn, bytesSoFar, withByte, character, ofCharacter, firstInGL}
 use Rattle.paper.specs.Answering.{means, intermediate, sequenceAt, groundAt, answerWithin, answerInStep}
 use Rattle.paper.specs.Results.{positionValues}
-use Rattle.paper.specs.WrittenForms.{leftOut, sequenceBytes, takesShort, intermediatesOf, designationBytes, functionBytes, singleShift, byteFrom}
+use Rattle.paper.specs.WrittenForms.{leftOut, sequenceBytes, takesShort, designationBytes, functionBytes, singleShift, byteFrom}
 use Rattle.paper.specs.WrittenForms.{characterBytes}
 use Rattle.paper.specs.declared.Form.{Form}
 use Rattle.paper.specs.declared.Area.{Area}
@@ -44,7 +43,7 @@ use Rattle.paper.specs.declared.Reader.{Reader}
 use Rattle.paper.specs.declared.Refusal.{Refusal}
 use Rattle.paper.specs.declared.Answer.{Answer}
 use Rattle.paper.specs.declared.Answered.{Answered}
-use Rattle.paper.proofs.Choices.{impossible, gives-by, gives-has, between-bounds}
+use Rattle.paper.proofs.Choices.{gives-by, gives-has, between-bounds}
 use Rattle.paper.proofs.ReadingOn.{readerWith}
 use Rattle.paper.proofs.WhatCanBeWritten.{SoFar}
 use Rattle.shortest.specs.ByteOrder.{NotAfter}

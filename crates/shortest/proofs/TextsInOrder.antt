@@ -1,7 +1,7 @@
 -- Shorter first, then byte order: a total order of texts, kept where texts are put together piece by piece.
 use Prim.Native.Nat.{ℕ, _<_, _≤_}
-use mathlib.Core.Path.{_≡_, refl, ap, _∙_, subst, sym}
-use mathlib.Core.List.{List, [], _∷_, _++_, append-nil}
+use mathlib.Core.Path.{_≡_, refl, ap, _∙_}
+use mathlib.Core.List.{List, [], _∷_, _++_}
 use native.Mathlib.Omega.{arith}
 use lib.ListN.{length, length-append}
 use Rattle.shortest.specs.ByteOrder.{InByteOrder, nothing, lower, alike, NotAfter, shorter, as-long}

@@ -1,13 +1,10 @@
 -- Of the four locking shifts the one that is chosen has the least cost, and among those that cost as much it comes first in byte order:
 -- cost and rank, taken as one number, are nowhere lower.
 use Prim.Native.Nat.{ℕ, _+_, _*_, _<_, _≤_}
-use mathlib.Core.Path.{_≡_, refl}
-use mathlib.Core.Bool.{Bool, true, false}
 use native.Mathlib.Omega.{arith}
-use borrow.Author.Tests.{ltb-true, ltb-false, lt-ltb, le-ltb}
-use lib.Dec.{ltb, eqb}
+use borrow.Author.Tests.{ltb-true, ltb-false}
+use lib.Dec.{ltb}
 use lib.ListN.{length}
-use Rattle.paper.specs.Choice.{_gives_or_}
 use Rattle.paper.specs.declared.Element.{Element}
 use Rattle.paper.specs.declared.Element.the-variants.{G0, G1, G2, G3}
 use Rattle.paper.proofs.Choices.{gives-by}

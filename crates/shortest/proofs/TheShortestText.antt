@@ -2,18 +2,14 @@
 -- shortest text of a sequence; and it is no longer than the 7-bit written form.
 use Prim.Native.Nat.{ℕ, _≤_}
 use mathlib.Core.Path.{_≡_, refl, sym, ap, _∙_, subst}
-use mathlib.Core.List.{List, [], _∷_}
+use mathlib.Core.List.{List, []}
 use native.Mathlib.Omega.{arith}
 use lib.ListN.{length}
 use Rattle.paper.specs.Starting.{startingSets, started}
-use Rattle.paper.specs.Texts.{answersOf, endWord}
-use Rattle.paper.specs.Surveying.{firstRefusal, firstOf}
-use Rattle.paper.specs.WrittenForms.{Entry, given, sequenceOf}
-use Rattle.paper.specs.Conversions.{refusalAtEnd, Accepted, output}
+use Rattle.paper.specs.WrittenForms.{Entry, sequenceOf}
+use Rattle.paper.specs.Conversions.{Accepted, output}
 use Rattle.paper.specs.declared.Form.{Form}
 use Rattle.paper.specs.declared.Element.the-variants.{G0}
-use Rattle.paper.specs.declared.EndWord.{EndWord}
-use Rattle.paper.specs.declared.FirstRefusal.the-variants.{Never}
 use Rattle.paper.proofs.WhatCanBeWritten.{Steps, ended, said, opened, entriesOf, InSteps}
 use Rattle.paper.proofs.WhatIsReadCanBeWritten.{can-be-written}
 use Rattle.paper.proofs.ReadingOn.{ReadsAs}

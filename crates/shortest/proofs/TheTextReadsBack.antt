@@ -1,15 +1,15 @@
 -- The text that is written is read as its sequence, marks included: each answer where it fits, each locking shift before an answer that does
 -- not begin with SI, so that no opening is made by chance, and each opening whole.
 use Prim.Native.Nat.{ℕ}
-use mathlib.Core.Path.{_≡_, refl, sym, ap, _∙_, subst}
+use mathlib.Core.Path.{_≡_, refl, sym, subst}
 use mathlib.Core.Bool.{Bool, true, false}
-use mathlib.Core.List.{List, [], _∷_, _++_, append-assoc}
+use mathlib.Core.List.{List, _∷_, _++_}
 use Rattle.paper.specs.Choice.{_gives_or_, between}
-use Rattle.paper.specs.Starting.{startingSets, started, opening}
+use Rattle.paper.specs.Starting.{startingSets}
 use Rattle.paper.specs.Sets.{setIn}
 use Rattle.paper.specs.Sequences.{sequenceByte, meaningOfNone, shiftOrOther, finalOfLS2, finalOfLS3}
 use Rattle.paper.specs.Answering.{means}
-use Rattle.paper.specs.WrittenForms.{Entry, given, leftOut, bytesOfAnswer, characterBytes, setsWith}
+use Rattle.paper.specs.WrittenForms.{Entry, given, leftOut, characterBytes, setsWith}
 use Rattle.paper.specs.declared.Form.{Form}
 use Rattle.paper.specs.declared.Kind.{Kind}
 use Rattle.paper.specs.declared.Kind.the-variants.{Of94, Of96}
@@ -19,7 +19,6 @@ use Rattle.paper.specs.declared.Element.{Element}
 use Rattle.paper.specs.declared.Element.the-variants.{G0, G1, G2, G3}
 use Rattle.paper.specs.declared.Sets.{Sets}
 use Rattle.paper.specs.declared.Intermediates.{Intermediates}
-use Rattle.paper.specs.declared.Meaning.{Meaning}
 use Rattle.paper.specs.declared.Meaning.the-variants.{Shifts}
 use Rattle.paper.specs.declared.GraphicArea.{GraphicArea}
 use Rattle.paper.specs.declared.PositionBytes.{PositionBytes}
@@ -32,7 +31,7 @@ use Rattle.paper.proofs.WhatCanBeWritten.{CanBeWritten, Steps, ended, said, ope
 use Rattle.paper.proofs.ReadingOn.{ReadsAs, readerWith, NoShiftIn, reads-si, reads-so}
 use Rattle.paper.proofs.WrittenCharactersReadBack.{begins-in-gl, reads-character}
 use Rattle.paper.proofs.WrittenSequencesReadBack.{reads-sequence}
-use Rattle.paper.proofs.WrittenAnswersReadBack.{Shows, Ready, reads-back, reads-opening, keeps-g0}
+use Rattle.paper.proofs.WrittenAnswersReadBack.{Shows, reads-back, reads-opening, keeps-g0}
 use Rattle.shortest.specs.ShortestText.{isShown, isTaken, isOf94, fits, bytesUnder, shiftTo, cheapest, costs, shortestFrom}
 use Rattle.shortest.proofs.BytesOfAnAnswer.{Clear, byte-alone, two-bytes, clear-bytes}
 use Rattle.shortest.proofs.ReadInSevenBits.{positions}

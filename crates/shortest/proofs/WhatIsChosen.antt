@@ -1,18 +1,18 @@
 -- At each answer the text goes on as GL is, or after one locking shift, by cost and then by rank. What is chosen can be written; and cost is
 -- length up to the next opening, from which on all ways are alike.
-use Prim.Native.Nat.{ℕ, _+_, _*_, _<_, _≤_}
+use Prim.Native.Nat.{ℕ, _+_, _<_, _≤_}
 use mathlib.Core.Path.{_≡_, refl, sym, ap, _∙_, subst}
 use mathlib.Core.Bool.{Bool, true, false}
 use mathlib.Core.Logic.{_⊎_, inl, inr, ⊎-elim}
-use mathlib.Core.List.{List, [], _∷_, _++_}
+use mathlib.Core.List.{List, [], _++_}
 use native.Mathlib.Omega.{arith}
-use native.Mathlib.Nat.{eq-or-lt-of-le, zero-add}
-use borrow.Author.Tests.{ltb-true, ltb-false, eqb-true, eqb-false, lt-ltb, le-ltb}
+use native.Mathlib.Nat.{zero-add}
+use borrow.Author.Tests.{ltb-true, ltb-false, eqb-true, eqb-false, le-ltb}
 use lib.Dec.{ltb, eqb}
 use lib.ListN.{length, length-append}
 use Rattle.paper.specs.Choice.{_gives_or_}
 use Rattle.paper.specs.Starting.{startingSets, opening}
-use Rattle.paper.specs.WrittenForms.{leftOut, setsWith}
+use Rattle.paper.specs.WrittenForms.{setsWith}
 use Rattle.paper.specs.declared.Form.{Form}
 use Rattle.paper.specs.declared.Kind.the-variants.{Of94}
 use Rattle.paper.specs.declared.Element.{Element}
@@ -20,15 +20,12 @@ use Rattle.paper.specs.declared.Element.the-variants.{G0, G1, G2, G3}
 use Rattle.paper.specs.declared.Sets.{Sets}
 use Rattle.paper.specs.declared.Answer.{Answer}
 use Rattle.paper.proofs.Choices.{impossible, gives-by}
-use Rattle.paper.proofs.WhatCanBeWritten.{CanBeWritten, Steps, ended, said, opened, AllCanBeWritten}
+use Rattle.paper.proofs.WhatCanBeWritten.{Steps, ended, said, opened, AllCanBeWritten}
 use Rattle.paper.proofs.WrittenAnswersReadBack.{keeps-g0}
-use Rattle.shortest.specs.ByteOrder.{NotAfter}
-use Rattle.shortest.specs.ShortestText.{isShown, fits, bytesUnder, far, cost, shiftTo, shiftFrom, rank, moving, cheapest, stays, chosen}
+use Rattle.shortest.specs.ShortestText.{isShown, fits, bytesUnder, far, shiftTo, shiftFrom, rank, moving, cheapest, chosen}
 use Rattle.shortest.specs.ShortestText.{least, costOf, costs, shortestFrom}
-use Rattle.shortest.proofs.TextsInOrder.{by-length, by-bytes, not-after-itself}
-use Rattle.shortest.proofs.TheCheapestShift.{shift-length, rank-of-shift, key, cheapest-key, cheapest-moves, one-shift-more}
-use Rattle.shortest.proofs.BytesOfAnAnswer.{home, shown-itself, fits-at-home, short-at-home, Clear, clear-bytes}
-use Rattle.shortest.proofs.ShiftsInOrder.{shifts-in-order, one-shift-of-a-rank, bytes-first, shift-first}
+use Rattle.shortest.proofs.TheCheapestShift.{shift-length, cheapest-moves, one-shift-more}
+use Rattle.shortest.proofs.BytesOfAnAnswer.{home, shown-itself, fits-at-home, short-at-home}
 
 -- ---- the two ways
 

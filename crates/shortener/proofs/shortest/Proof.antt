@@ -1,5 +1,5 @@
 -- The tests in their order, and then what the passes give.
-use mathlib.Core.Path.{_≡_, refl, sym, ap, _∙_}
+use mathlib.Core.Path.{refl, sym, _∙_}
 use native.Mathlib.Omega.{arith}
 use borrow.Author.Needs.{needs}
 use denote.Ref.{now}
@@ -18,26 +18,50 @@ returns-2 c =
     work-short (a .form) (now (a .text)) (now (a .buffer)) (now (a .work)) (c .before .if1 .left) (c .if2 .taken)
 
 weigh-requires : tie.Need-weigh-requires
-weigh-requires c κs = (sym (sym (c .before .enum-told .given .1) ∙ c .before .before .before .refusal-in .ensures), c .before .before .before .before .before .if1 .left)
+weigh-requires c κs =
+    let survey = c .before .before .before in
+    (sym (sym (c .before .enum-told .given .1) ∙ survey .refusal-in .ensures), survey .before .before .if1 .left)
 
 write-requires : tie.Need-write-requires
 write-requires c κs =
-    ((sym (sym (c .before .before .before .before .before .before .enum-told .given .1) ∙ c .before .before .before .before .before .before .before .before .refusal-in .ensures), c .before .before .before .before .before .before .before .before .before .before .if1 .left, c .before .before .before .before .before .before .before .before .before .if2 .left), omega (arith, c .before .before .before .before .weigh .ensures .0 refl, c .before .before .if3 .taken))
+    let weighed = c .before .before .before .before in
+    let told = weighed .before .before in
+    let survey = told .before .before in
+    let tested = survey .before in (
+      (sym (sym (told .enum-told .given .1) ∙ survey .refusal-in .ensures), tested .before .if1 .left, tested .if2 .left),
+      omega (arith, weighed .weigh .ensures .0 refl, c .before .before .if3 .taken),
+    )
 
 returns-3 : tie.Need-returns-3
 returns-3 c =
-    let a = c .before .before .before .before .before .before .before .before .before .before .before .before .before .before .before .before .before .before .before .args in
-    all-written (a .form) (now (a .text)) (now (a .buffer)) (now (a .work)) (c .before .before .before .before .before .before .before .before .before .before .before .before .before .before .before .if1 .left) (c .before .before .before .before .before .before .before .before .before .before .before .before .before .before .if2 .left) (sym (c .before .before .before .before .before .before .before .before .before .before .before .enum-told .given .1) ∙ c .before .before .before .before .before .before .before .before .before .before .before .before .before .refusal-in .ensures) _ (c .before .before .before .before .before .before .before .before .before .weigh .ensures .0 refl) (c .before .before .before .before .before .before .before .if3 .taken) _ _ (c .before .before .before .before .write .ensures .0) (c .before .before .before .before .write .ensures .1)
+    let write = c .before .before .before .before in
+    let roomy = write .before .before .before in
+    let weighed = roomy .before .before in
+    let told = weighed .before .before in
+    let survey = told .before .before in
+    let tested = survey .before in
+    let a = tested .before .before .before .before .before .args in
+    all-written (a .form) (now (a .text)) (now (a .buffer)) (now (a .work)) (tested .before .if1 .left) (tested .if2 .left)
+    (sym (told .enum-told .given .1) ∙ survey .refusal-in .ensures) _ (weighed .weigh .ensures .0 refl) (omega (arith, roomy .if3 .taken)) _ _
+    (write .write .ensures .0) (write .write .ensures .1)
 
 returns-4 : tie.Need-returns-4
 returns-4 c =
-    let a = c .before .before .before .before .before .before .before .before .before .args in
-    text-refused (a .form) (now (a .text)) (now (a .buffer)) (now (a .work)) (c .before .before .before .before .before .if1 .left) (c .before .before .before .before .if2 .left) _ _ (sym (c .before .refusal .given .1) ∙ c .before .before .before .refusal-in .ensures)
+    let survey = c .before .before .before in
+    let tested = survey .before in
+    let a = tested .before .before .before .before .before .args in
+    text-refused (a .form) (now (a .text)) (now (a .buffer)) (now (a .work)) (tested .before .if1 .left) (tested .if2 .left) _ _
+    (sym (c .before .refusal .given .1) ∙ survey .refusal-in .ensures)
 
 returns-5 : tie.Need-returns-5
 returns-5 c =
-    let a = c .before .before .before .before .before .before .before .before .before .before .before .before .args in
-    no-room (a .form) (now (a .text)) (now (a .buffer)) (now (a .work)) (c .before .before .before .before .before .before .before .before .if1 .left) (c .before .before .before .before .before .before .before .if2 .left) (sym (c .before .before .before .before .enum-told .given .1) ∙ c .before .before .before .before .before .before .refusal-in .ensures) _ (c .before .before .weigh .ensures .0 refl) (c .if3 .left)
+    let weighed = c .before .before in
+    let told = weighed .before .before in
+    let survey = told .before .before in
+    let tested = survey .before in
+    let a = tested .before .before .before .before .before .args in
+    no-room (a .form) (now (a .text)) (now (a .buffer)) (now (a .work)) (tested .before .if1 .left) (tested .if2 .left)
+    (sym (told .enum-told .given .1) ∙ survey .refusal-in .ensures) _ (weighed .weigh .ensures .0 refl) (c .if3 .left)
 
 pub shortest-spec : {M : Type 1} → statement M
 shortest-spec =

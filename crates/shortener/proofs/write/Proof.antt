@@ -1,11 +1,10 @@
 -- The passes one after the other: codes, choices, output, zeros.
 use Prim.Native.Nat.{ℕ, _≤_}
-use mathlib.Core.Path.{_≡_}
 use mathlib.Core.List.{List}
 use native.Mathlib.Omega.{arith}
 use borrow.Author.Needs.{needs}
 use denote.Ref.{now}
-use lib.ListN.{length, drop}
+use lib.ListN.{length}
 use Rattle.shortest.specs.Shortening.{longestInput, workLength}
 use Rattle.shortener.specs.Weighing.{allCodes}
 use Rattle.shortener.proofs.OverTheWorkBuffer.{choices-over, cleared}
@@ -42,10 +41,11 @@ put-units-requires c κs =
 
 returns : tie.Need-returns
 returns c =
-    let start = c .before .before .before .before .before .before .before .before .before .before .before .before .before .before .before .before .before .before .before .before in
+    let coding = c .before .before .before .before .before .before .before .before .before .before .before .before .before .before .before in
+    let start = coding .before .before .before .before .before in
     let text : List ℕ = now (start .args .text) in
     let work : List ℕ = now (start .args .work) in
-    let weigh = c .before .before .before .before .before .before .before .before .before .before .before .before .before .before .before .weigh in
+    let weigh = coding .weigh in
     let choose = c .before .before .before .before .before .before .before .before .before .before .before .choose in
     let pre = start .pre .0 in
     let coded = weigh .ensures .1 (room (length text) (length work) (pre .1) (pre .2)) in (

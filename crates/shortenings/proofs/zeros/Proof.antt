@@ -1,5 +1,5 @@
 -- Each turn leaves fewer bytes.
-use Prim.Native.Nat.{_-_, _≤_}
+use Prim.Native.Nat.{_-_}
 use lib.ListN.{length}
 use borrow.Author.Needs.{needs}
 use Rattle.shortenings.proofs.zeros.Statement.{statement}

@@ -25,16 +25,19 @@ put-piece-requires : tie.Need-put-piece-requires
 put-piece-requires c κs =
     let start = c .before .before .before .before .before .before .before in
     let led = c .before .led in
-    let all = led-by _ _ _ (start .args .effect) (bytesIn (start .args .piece)) _ (led .result) (c .before .before .before .choice .ensures) (c .before .before .bytes-under .ensures .0) (led .ensures .0) in
+    let chosen = c .before .before .before .choice .ensures in
+    let under = c .before .before .bytes-under .ensures .0 in
+    let all = led-by _ _ _ (start .args .effect) (bytesIn (start .args .piece)) _ (led .result) chosen under (led .ensures .0) in
     (omega (arith, start .pre .1, ap length all, length-of-bytes (led .result)), omega (arith, led .ensures .1))
 
 returns : tie.Need-returns
 returns c =
     let start = c .before .before .before .before .before .before .before .before .before .before .before in
     let led = c .before .before .before .before .before .led in
-    let all = led-by _ _ _ (start .args .effect) (bytesIn (start .args .piece)) _ (led .result) (c .before .before .before .before .before .before .before .choice .ensures) (c .before .before .before .before .before .before .bytes-under .ensures .0) (led .ensures .0) in
-    let long = sym (length-of-bytes (led .result)) ∙ ap length all in
     let chosen = c .before .before .before .before .before .before .before .choice .ensures in
+    let under = c .before .before .before .before .before .before .bytes-under .ensures .0 in
+    let all = led-by _ _ _ (start .args .effect) (bytesIn (start .args .piece)) _ (led .result) chosen under (led .ensures .0) in
+    let long = sym (length-of-bytes (led .result)) ∙ ap length all in
     let w = start .args .written in (
       λ i. record { place = start .args .next; unit = w .unit + 1; at = w .at + long i; shown = chosen i },
       c .before .before .before .put-piece .ensures ∙ ap (sets (now (start .args .buffer)) (start .args .written .at)) all,

@@ -1,8 +1,7 @@
 -- There is room for all of it.
 use Prim.Native.Nat.{ℕ, _+_, _≤_}
-use mathlib.Core.Path.{_≡_, ap, _∙_}
+use mathlib.Core.Path.{_≡_, _∙_}
 use mathlib.Core.List.{List}
-use native.Mathlib.Omega.{arith}
 use borrow.Author.Needs.{needs}
 use borrow.Author.Tests.{le-leb}
 use denote.Ref.{now}
@@ -22,7 +21,10 @@ put-whole buffer at room = rw (le-leb (at + length (opening Form.Seven)) (length
 returns : tie.Need-returns
 returns c =
     let start = c .before .before .before .before .before .before .before .before in
-    (search (c .before .opening-length .ensures), c .before .before .before .before .before .put-opening .ensures ∙ put-whole (now (start .args .buffer)) (start .args .written .at) (start .pre .0))
+    let put = c .before .before .before .before .before .put-opening .ensures in (
+      search (c .before .opening-length .ensures),
+      put ∙ put-whole (now (start .args .buffer)) (start .args .written .at) (start .pre .0),
+    )
 
 pub put-opening-at-spec : {M : Type 1} → statement M
 put-opening-at-spec =

@@ -1,9 +1,8 @@
 -- The loop keeps `Putting` from item to item; at the end no step is left.
 use Prim.Native.Nat.{ℕ, _-_}
-use mathlib.Core.Path.{_≡_, sym, subst}
+use mathlib.Core.Path.{sym, subst}
 use mathlib.Core.List.{List}
 use native.Mathlib.Omega.{arith}
-use borrow.Author.Needs.{needs}
 use lib.ListN.{length}
 use Rattle.shortener.specs.Putting.{Putting}
 use Rattle.shortener.proofs.StepsByItems.{going-at-start}
@@ -26,7 +25,8 @@ loop-holds c =
     let work : List ℕ = a .work .now in
     subst (λ (cells : List ℕ). Putting (a .form) text buffer work cells (record { place = 0; unit = 0; at = 0; shown = 0 }) buffer)
     (sym (c .starting .ensures))
-    (putting-starts (a .form) text buffer work (start .pre .1 .1 .0) (going-at-start (a .form) text (start .pre .0 .0)) (start .pre .1 .1 .1) (start .pre .1 .0))
+    (putting-starts (a .form) text buffer work (start .pre .1 .1 .0) (going-at-start (a .form) text (start .pre .0 .0)) (start .pre .1 .1 .1)
+    (start .pre .1 .0))
 
 pub put-units-spec : {M : Type 1} → statement M
 put-units-spec =
@@ -36,8 +36,12 @@ put-units-spec =
     μ-loop
     (λ c κs. tt)
     loop-holds
-    (λ c κs. ((c .before .before .if1 .taken, c .before .before .before .before .before .before .before .before .before .pre .0 .1), (_, c .before .before .before .before .loop .inv)))
+    (λ c κs.
+    let loop = c .before .before .before .before in
+    ((c .before .before .if1 .taken, loop .before .before .before .before .before .pre .0 .1), (_, loop .loop .inv)))
     (λ c. omega (arith, c .before .before .step .ensures .0, c .before .before .before .before .before .if1 .taken))
-    (λ c. c .before .before .step .ensures .1 (c .before .before .before .before .before .before .before .before .before .before .before .before .args .buffer .now) (c .before .before .before .before .before .before .before .loop .inv))
+    (λ c.
+    let loop = c .before .before .before .before .before .before .before in
+    c .before .before .step .ensures .1 (loop .before .before .before .before .before .args .buffer .now) (loop .loop .inv))
     (λ c. buffer-long (c .before .before .loop .inv))
     (λ c. put-all (c .before .before .loop .inv) (c .if1 .left)))

@@ -1,5 +1,4 @@
 -- A control by its byte, all else as it is.
-use native.Mathlib.Omega.{arith}
 use borrow.Author.Needs.{needs}
 use Rattle.paper.proofs.Tests.{tests}
 use Rattle.shortener.specs.Under as specs

@@ -1,6 +1,6 @@
 -- Its place in byte order and its number of bytes, both of what is written.
 use Prim.Native.Nat.{ℕ}
-use mathlib.Core.Path.{_≡_, sym, ap, _∙_}
+use mathlib.Core.Path.{sym, ap, _∙_}
 use mathlib.Core.List.{List}
 use native.Mathlib.Omega.{arith}
 use borrow.Author.Needs.{needs}
@@ -10,7 +10,6 @@ use Rattle.items.specs.Pieces.{bytesIn}
 use Rattle.items.specs.declared.piece.Piece.{Piece}
 use Rattle.items.proofs.BytesInANumber.{length-of-bytes}
 use Rattle.shortener.specs.Codes.{placeOfRank, alikeCode}
-use Rattle.shortener.specs.Under.{alikeCodeOf}
 use Rattle.shortener.proofs.under.code_alike_of.Statement.{statement}
 use Rattle.shortener.proofs.under.code_alike_of.Tie as tie
 

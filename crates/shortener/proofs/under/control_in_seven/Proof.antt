@@ -1,13 +1,13 @@
 -- The piece has one byte, the lowest of its number.
-use Prim.Native.Nat.{ℕ, zero, suc, _-_, _%_, _<_, _≤_}
-use mathlib.Core.Path.{_≡_, refl, sym, ap, _∙_}
+use Prim.Native.Nat.{ℕ, _-_, _%_, _<_, _≤_}
+use mathlib.Core.Path.{_≡_, sym, ap, _∙_}
 use mathlib.Core.List.{List, [], _∷_}
 use native.Mathlib.Omega.{arith}
 use borrow.Author.Needs.{needs}
 use borrow.Author.Tests.{lt-ltb, le-ltb}
 use Rattle.paper.specs.CodeTable.{esc, bit8}
 use Rattle.paper.specs.Sequences.{finalOfFunction}
-use Rattle.items.specs.Pieces.{bytesOf, bytesIn, Small}
+use Rattle.items.specs.Pieces.{bytesOf, bytesIn}
 use Rattle.items.specs.declared.piece.Piece.{Piece}
 use Rattle.shortener.specs.Under.{controlInSeven}
 use Rattle.shortener.proofs.under.control_in_seven.Statement.{statement}

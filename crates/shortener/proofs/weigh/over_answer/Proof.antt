@@ -5,6 +5,16 @@ use Rattle.paper.proofs.Tests.{tests}
 use Rattle.shortener.proofs.weigh.over_answer.Statement.{statement}
 use Rattle.shortener.proofs.weigh.over_answer.Tie as tie
 
+further-requires : tie.Need-further-requires
+further-requires c κs =
+    let pre = c .before .before .before .pre in
+    record {
+      g0 = omega (arith, pre .0 .g0, pre .1);
+      g1 = omega (arith, pre .0 .g1, pre .1);
+      g2 = omega (arith, pre .0 .g2, pre .1);
+      g3 = omega (arith, pre .0 .g3, pre .1);
+    }
+
 pub over-answer-spec : {M : Type 1} → statement M
 over-answer-spec =
     tie.close
@@ -14,5 +24,5 @@ over-answer-spec =
     (λ c. search needs)
     (λ c. (search tests, search tests))
     (λ c. search needs)
-    (λ c κs. let h = c .before .before .before .pre .0 in record { g0 = omega (arith, h .g0, c .before .before .before .pre .1); g1 = omega (arith, h .g1, c .before .before .before .pre .1); g2 = omega (arith, h .g2, c .before .before .before .pre .1); g3 = omega (arith, h .g3, c .before .before .before .pre .1) })
+    further-requires
     (λ c. (search (tests, c .further .ensures), search tests)))

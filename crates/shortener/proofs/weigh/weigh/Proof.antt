@@ -1,14 +1,12 @@
 -- The loop keeps `Weighing` from item to item; at the end no step is left.
 use Prim.Native.Nat.{ℕ, _+_, _-_}
-use mathlib.Core.Path.{_≡_, refl, sym, ap, _∙_, subst}
+use mathlib.Core.Path.{sym, ap, _∙_, subst}
 use mathlib.Core.List.{List}
 use native.Mathlib.Omega.{arith}
-use borrow.Author.Needs.{needs}
 use lib.ListN.{length}
 use Rattle.paper.specs.declared.Element.the-variants.{G0}
 use Rattle.items.specs.States.{startingCells}
-use Rattle.shortener.specs.Fours.{ofFour, fourOf}
-use Rattle.shortener.specs.Ways.{firstWays}
+use Rattle.shortener.specs.Fours.{ofFour}
 use Rattle.shortener.specs.Weighing.{Weighing}
 use Rattle.shortener.specs.declared.weigh.Weighed.{Weighed}
 use Rattle.shortener.proofs.StepsByItems.{going-at-start}
@@ -36,13 +34,16 @@ loop-holds c =
     (weighing-starts (a .form) text work (going-at-start (a .form) text (start .pre .0))))
 
 loop-again : tie.Need-loop-again Inv-loop μ-loop
-loop-again c = c .before .before .step .ensures .1 (c .before .before .before .before .before .before .before .before .before .before .before .before .args .work .now) (c .before .before .before .before .before .before .before .loop .inv)
+loop-again c =
+    let loop = c .before .before .before .before .before .before .before in
+    c .before .before .step .ensures .1 (loop .before .before .before .before .before .args .work .now) (loop .loop .inv)
 
 returns : tie.Need-returns Inv-loop μ-loop
 returns c =
-    let p = c .before .before .before .before .before .loop .inv in
+    let loop = c .before .before .before .before .before .loop in
+    let p = loop .inv in
     let past = c .before .before .before .if1 .left in (
-      λ none. ap (λ (n : ℕ). c .before .before .before .before .before .loop .weighed .length + n) (c .before .lowest .ensures) ∙ weighed-all p past none,
+      λ none. ap (λ (n : ℕ). loop .weighed .length + n) (c .before .lowest .ensures) ∙ weighed-all p past none,
       λ room. written-all p past room,
     )
 
@@ -55,13 +56,17 @@ weigh-spec =
     (λ c κs. tt)
     (λ c κs. tt)
     loop-holds
-    (λ c κs. let start = c .before .before .before .before .before .before .before .before .before in ((c .before .before .if1 .taken, start .pre .1), (_, c .before .before .before .before .loop .inv)))
+    (λ c κs.
+    let loop = c .before .before .before .before in
+    ((c .before .before .if1 .taken, loop .before .before .before .before .before .pre .1), (_, loop .loop .inv)))
     (λ c. omega (arith, c .before .before .step .ensures .0, c .before .before .before .before .before .if1 .taken))
     loop-again
     (λ c κs. tt)
     (λ c.
-    let w : Weighed = c .before .before .before .before .before .loop .weighed in
-    let p = c .before .before .before .before .before .loop .inv in
-    omega (arith, c .before .lowest .ensures, lowest-at (ofFour (w .ways)) G0, p .bounded .g0, p .going .reading .within, c .before .before .before .before .before .before .before .before .before .before .pre .1))
+    let loop = c .before .before .before .before .before in
+    let w : Weighed = loop .loop .weighed in
+    let p = loop .loop .inv in
+    let start = loop .before .before .before .before .before in
+    omega (arith, c .before .lowest .ensures, lowest-at (ofFour (w .ways)) G0, p .bounded .g0, p .going .reading .within, start .pre .1))
     (λ c. c .before .before .before .before .before .loop .inv .as-long)
     returns)
