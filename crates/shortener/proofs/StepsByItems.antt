@@ -43,6 +43,7 @@ use Rattle.items.proofs.ItemsGoOn.{ReadsOn, items-go-on}
 use Rattle.items.proofs.TextsReadOn.{in-step-on, rest, alone, first-here, end-here, opening-within, first-after, end-after, sequence-after}
 use Rattle.shortest.specs.ShortestText.{stepsOf}
 use Rattle.shortest.proofs.TheShortestText.{steps-again, can, as-steps}
+use Rattle.shortest.proofs.NoneComesBefore.{sets-stay}
 use Rattle.shortener.specs.Going.{Reading, Going}
 
 -- steps by their entries
@@ -95,21 +96,6 @@ module _ {m : Form} {text : List ℕ} {t : Sets} {r : Reader} {place : ℕ} (p :
 some-bytes : (m : Form) → 0 < length (opening m)
 some-bytes Form.Seven = omega arith
 some-bytes Form.Eight = omega arith
-
--- what is left out changes no set
-sets-stay : (x : Answer) (t : Sets) → leftOut x ≡ true → setsWith t x ≡ t
-sets-stay Answer.NothingYet t h = refl
-sets-stay (Answer.Char e y p) t h = impossible (cc)
-sets-stay Answer.Space t h = impossible (cc)
-sets-stay Answer.Delete t h = impossible (cc)
-sets-stay (Answer.Control w f n) t h = impossible (cc)
-sets-stay (Answer.DesignateControls w f) t h = impossible (cc)
-sets-stay (Answer.Designate e y) t h = impossible (cc)
-sets-stay (Answer.Shift h) t k = refl
-sets-stay (Answer.Other i f) t h = impossible (cc)
-sets-stay (Answer.Refused n) t h = impossible (cc)
-sets-stay Answer.Skipped t h = impossible (cc)
-sets-stay (Answer.InStep n) t h = impossible (cc)
 
 -- between two items nothing is begun
 stands-between : (t : Sets) (u : Single) (x : Standing) → x ≡ Standing.InStep (states.withinOf u) → Stands t x

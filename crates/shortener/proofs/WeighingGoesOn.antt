@@ -52,6 +52,17 @@ over-one so-far lent k room =
 
 module _ {m : Form} {text lent cells : List ℕ} {v : Weighed} {work : List ℕ} (p : Weighing m text lent cells v work)
     (inside : v .place < length text) where
+  -- at a later place, with one unit more at most
+  bounded-on : (next count : ℕ) → v .place < next → count ≤ v .count + 1 →
+      Bounded (record { place = next; count = count; length = v .length; ways = v .ways })
+  bounded-on next count onward at-most = record {
+    few = omega (arith, p .bounded .few, onward, at-most);
+    g0 = omega (arith, p .bounded .g0, onward);
+    g1 = omega (arith, p .bounded .g1, onward);
+    g2 = omega (arith, p .bounded .g2, onward);
+    g3 = omega (arith, p .bounded .g3, onward);
+  }
+
   -- what is left after a unit that has this code
   module _ (code next : ℕ) (else : Weighed) (then : Steps) (u : Sets) (known : List ℕ) (onward : v .place < next)
       (codes : codesOf (p .steps) (p .sets) ≡ code ∷ codesOf then u) (count-is : else .count ≡ v .count + 1) (place-is : else .place ≡ next)
@@ -70,13 +81,7 @@ module _ {m : Form} {text lent cells : List ℕ} {v : Weighed} {work : List ℕ}
       steps = then;
       sets = u;
       going = going;
-      bounded = record {
-        few = omega (arith, p .bounded .few, onward);
-        g0 = omega (arith, p .bounded .g0, onward);
-        g1 = omega (arith, p .bounded .g1, onward);
-        g2 = omega (arith, p .bounded .g2, onward);
-        g3 = omega (arith, p .bounded .g3, onward);
-      };
+      bounded = bounded-on next (v .count + 1) onward (omega arith);
       before = so-far;
       whole = whole-then;
       counted = counted-then;
@@ -204,13 +209,7 @@ module _ {m : Form} {text lent cells : List ℕ} {v : Weighed} {work : List ℕ}
     steps = p .steps;
     sets = p .sets;
     going = going;
-    bounded = record {
-      few = omega (arith, p .bounded .few, onward);
-      g0 = omega (arith, p .bounded .g0, onward);
-      g1 = omega (arith, p .bounded .g1, onward);
-      g2 = omega (arith, p .bounded .g2, onward);
-      g3 = omega (arith, p .bounded .g3, onward);
-    };
+    bounded = bounded-on next (v .count) onward (omega arith);
     before = p .before;
     whole = p .whole;
     counted = p .counted;

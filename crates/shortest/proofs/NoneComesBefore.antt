@@ -77,7 +77,7 @@ at-end r w here at never whole =
 -- ---- a byte
 
 -- what is left out changes no set
-sets-stay : (a : Answer) (t : Sets) → leftOut a ≡ true → setsWith t a ≡ t
+pub sets-stay : (a : Answer) (t : Sets) → leftOut a ≡ true → setsWith t a ≡ t
 sets-stay Answer.NothingYet t h = refl
 sets-stay (Answer.Char e x p) t h = impossible (cc)
 sets-stay Answer.Space t h = impossible (cc)
