@@ -12,22 +12,22 @@ use Rattle.paper.specs.declared.Refusal.{Refusal}
 use Rattle.paper.specs.declared.FirstRefusal.{FirstRefusal}
 use Rattle.paper.specs.declared.FirstRefusal.the-variants.{Never, First}
 use Rattle.paper.specs.declared.Converted.{Converted}
-use Rattle.shortest.specs.Shortening.{longestInput, workLength, shortestText, shortening, bufferAfter, workAfter}
+use Rattle.shortest.specs.Shortening.{shortestText, shortening, bufferAfter, workAfter}
 
 module _ (m : Form) (text : List ℕ) (room work : ℕ) where
-  pub long-input : longestInput < length text → shortening m text room work ≡ Converted.Refused Refusal.InputTooLong 0
+  pub long-input : 4096 < length text → shortening m text room work ≡ Converted.Refused Refusal.InputTooLong 0
   unfolding shortening
-  long-input long = rw (lt-leb (length text) longestInput long)
+  long-input long = rw (lt-leb (length text) 4096 long)
 
-  module _ (short : length text ≤ longestInput) where
-    pub short-work : work < workLength → shortening m text room work ≡ Converted.Refused Refusal.WorkBufferShort 0
+  module _ (short : length text ≤ 4096) where
+    pub short-work : work < 65536 → shortening m text room work ≡ Converted.Refused Refusal.WorkBufferShort 0
     unfolding shortening
-    short-work less = rw (le-leb (length text) longestInput short, lt-leb workLength work less)
+    short-work less = rw (le-leb (length text) 4096 short, lt-leb 65536 work less)
 
-    module _ (enough : workLength ≤ work) where
+    module _ (enough : 65536 ≤ work) where
       pub both-tested : shortening m text room work ≡ intoRoom (refusalIn m text) (length (shortestText m text)) room
       unfolding shortening
-      both-tested = rw (le-leb (length text) longestInput short, le-leb workLength work enough)
+      both-tested = rw (le-leb (length text) 4096 short, le-leb 65536 work enough)
 
       pub refused-text : (n : Refusal) (place : ℕ) → refusalIn m text ≡ First n place →
           shortening m text room work ≡ Converted.Refused n place

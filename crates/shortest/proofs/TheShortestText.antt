@@ -1,6 +1,6 @@
 -- What is asked of the text. Of an accepted text in either form, the text that is written is the shortest of its sequence; there is one
--- shortest text of a sequence; and it is no longer than the 7-bit written form.
-use Prim.Native.Nat.{ℕ, _≤_}
+-- shortest text of a sequence; and it is no longer than the 7-bit written form, so at most three times as long as the text.
+use Prim.Native.Nat.{ℕ, _*_, _≤_}
 use mathlib.Core.Path.{_≡_, refl, sym, ap, _∙_, subst}
 use mathlib.Core.List.{List, []}
 use native.Mathlib.Omega.{arith}
@@ -15,6 +15,7 @@ use Rattle.paper.proofs.WhatIsReadCanBeWritten.{can-be-written}
 use Rattle.paper.proofs.ReadingOn.{ReadsAs}
 use Rattle.paper.proofs.AcceptedTextsEndWhole.{refuses-nothing, accepted-ends-whole}
 use Rattle.paper.proofs.SameSequence.{accepted-where, same-sequence}
+use Rattle.paper.proofs.OutputWithin.{output-within}
 use Rattle.shortest.specs.ByteOrder.{NotAfter}
 use Rattle.shortest.specs.Shortest.{Reads, Shortest}
 use Rattle.shortest.specs.ShortestText.{Gathered, gathered, before, stepsOf, shortestFrom, shortestOf}
@@ -71,3 +72,6 @@ module _ (m : Form) (text : List ℕ) (accepted : Accepted m text) where
   no-longer-than-written =
       let written = same-sequence m Form.Seven text accepted in
       no-longer (comes-first (output m Form.Seven text) (record { accepted = written .0; same = written .2 }))
+
+  pub shortest-within : length (shortestOf sequence) ≤ 3 * length text
+  shortest-within = omega (arith, no-longer-than-written, output-within m Form.Seven text)
