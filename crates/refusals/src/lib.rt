@@ -1,4 +1,4 @@
-// The refusals' numbers, and the bound above which a whole text is refused.
+// The refusals' numbers, and the bounds by which a text or a work buffer is refused.
 use paper::Refusal;
 ghost use mathlib.Core.Path.{_≡_};
 ghost use Rattle.paper.specs.Refusals.{numberOf};
@@ -6,6 +6,11 @@ ghost use Rattle.refusals.specs.ByNumber.{refusalOf};
 
 // The longest text that is surveyed, listed or converted.
 pub const LONGEST_TEXT: usize = 65536;
+
+// What is not refused with 13 and with 14: the longest text of which the shortest one is written, and the least work buffer for it.
+pub const LONGEST_INPUT: usize = 4096;
+
+pub const LEAST_WORK: usize = 65536;
 
 // The numbers of the paper's table.
 pub const BYTE_OF_EIGHT_BITS: u8 = 1;

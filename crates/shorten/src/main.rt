@@ -6,16 +6,14 @@ use libc::STDOUT_FILENO;
 use paper::Converted;
 use paper::Form;
 use paper::Refusal;
+use refusals::LEAST_WORK;
+use refusals::LONGEST_INPUT;
 
 // A text may have 4,096 bytes; one byte more shows that it is longer.
-const LONGEST_INPUT: usize = 4096;
-
 const ROOM: usize = LONGEST_INPUT + 1;
 
 // A byte of the text makes at most three bytes, so that no output is longer.
 const LONGEST_OUTPUT: usize = 3 * LONGEST_INPUT;
-
-const WORK: usize = 65536;
 
 enum Chosen {
     Reading(Form),
@@ -47,7 +45,7 @@ fn complain(refusal: Refusal, place: usize) {
 
 fn print_shortest(form: Form, text: &[u8]) {
     let mut room = [0u8; LONGEST_OUTPUT];
-    let mut work = [0u8; WORK];
+    let mut work = [0u8; LEAST_WORK];
     let buffer: &mut [u8] = &mut room;
     match shortener::shortest(form, text, buffer, &mut work) {
         Converted::Done(length) => print_start(buffer, length),

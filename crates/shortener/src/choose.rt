@@ -20,6 +20,7 @@ ghost use lib.Dec.{ltb};
 ghost use lib.ListN.{length, take, drop};
 ghost use Rattle.paper.specs.Choice.{_gives_or_};
 ghost use Rattle.shortest.specs.ShortestText as text;
+ghost use Rattle.shortest.specs.Shortening.{longestInput};
 ghost use Rattle.shortener.specs.Fours.{ofFour, fourOf, AtMost, indexOf};
 ghost use Rattle.shortener.specs.Choices.{isBefore, chosenBy, choiceAt, packed, withCode, costsWith, choicesWith, choicesBy};
 
@@ -143,7 +144,7 @@ fn turn_or_opening(code: u8, later: Four) -> Turned
 }
 
 pub(crate) fn choose(work: &mut [u8], count: usize)
-    requires { ⌜ (count ≤ length (now work)) × (count ≤ 4096) ⌝ }
+    requires { ⌜ (count ≤ length (now work)) × (count ≤ longestInput) ⌝ }
     ensures { λ _. ⌜ now (work .exit) ≡ choicesBy (take count (now (work .entry))) ++ drop count (now (work .entry)) ⌝ }
 {
     let mut later = nothing();

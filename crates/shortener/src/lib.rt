@@ -17,6 +17,8 @@ use paper::Form;
 use paper::Refusal;
 use paper::Surveyed;
 use put::put_units;
+use refusals::LEAST_WORK;
+use refusals::LONGEST_INPUT;
 use weigh::weigh;
 ghost use Prim.Native.Nat.{_≤_};
 ghost use mathlib.Core.Path.{_≡_};
@@ -25,11 +27,6 @@ ghost use lib.ListN.{length, drop, replicate};
 ghost use Rattle.paper.specs.LentBuffers.{over};
 ghost use Rattle.paper.specs.Conversions.{refusalAtEnd, refusalIn, Accepted};
 ghost use Rattle.shortest.specs.Shortening.{longestInput, workLength, shortestText, shortening, bufferAfter, workAfter};
-
-// The longest input, and the shortest work buffer.
-const LONGEST_INPUT: usize = 4096;
-
-const WORK: usize = 65536;
 
 // At the end of the text: 7 where it ends inside.
 fn refusal_at_end(end: EndWord, length: usize) -> FirstRefusal
@@ -66,7 +63,7 @@ fn clear(work: &mut [u8])
     ensures { λ _. ⌜ now (work .exit) ≡ replicate workLength 0 ++ drop workLength (now (work .entry)) ⌝ }
 {
     let mut next: usize = 0;
-    while next < WORK {
+    while next < LEAST_WORK {
         work[next] = 0;
         next += 1;
     }
@@ -96,7 +93,7 @@ pub fn shortest(form: Form, text: &[u8], buffer: &mut [u8], work: &mut [u8]) -> 
     if text.len() > LONGEST_INPUT {
         return Converted::Refused(Refusal::InputTooLong, 0);
     }
-    if work.len() < WORK {
+    if work.len() < LEAST_WORK {
         return Converted::Refused(Refusal::WorkBufferShort, 0);
     }
     match refusal_in(form, text) {

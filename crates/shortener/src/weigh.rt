@@ -66,7 +66,7 @@ fn further(ways: Four, code: u8) -> Four
 
 // An opening.
 fn over_opening(weighed: Weighed, next: usize, work: &mut [u8]) -> Weighed
-    requires { ⌜ Bounded weighed × (weighed .place ≤ 4096) ⌝ }
+    requires { ⌜ Bounded weighed × (weighed .place ≤ longestInput) ⌝ }
     ensures { λ r. ⌜ r ≡ more weighed next (now (work .entry)) (openingMore weighed next) ⌝ }
     ensures { λ _. ⌜ now (work .exit) ≡ put weighed (now (work .entry)) ofOpening ⌝ }
 {
@@ -92,7 +92,7 @@ fn over_opening(weighed: Weighed, next: usize, work: &mut [u8]) -> Weighed
 
 // An answer that has this code.
 fn over_answer(weighed: Weighed, next: usize, code: u8, work: &mut [u8]) -> Weighed
-    requires { ⌜ Bounded weighed × (weighed .place ≤ 4096) ⌝ }
+    requires { ⌜ Bounded weighed × (weighed .place ≤ longestInput) ⌝ }
     ensures { λ r. ⌜ r ≡ more weighed next (now (work .entry)) (answerMore weighed next code) ⌝ }
     ensures { λ _. ⌜ now (work .exit) ≡ put weighed (now (work .entry)) code ⌝ }
 {
