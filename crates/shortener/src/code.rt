@@ -31,7 +31,7 @@ pub(crate) const OF_OPENING: u8 = 0xFF;
 
 const ROW: u8 = 16;
 
-// More than any way round costs.
+// More than a shift, an answer and a shift back cost.
 const FAR: usize = 16;
 
 // What a single shift costs.

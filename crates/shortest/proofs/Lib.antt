@@ -8,6 +8,8 @@ pub mod NoBetterByAShift
 pub mod ReadInSevenBits
 pub mod NoneComesBefore
 pub mod TheTextReadsBack
+pub mod SequencesShowRefusals
 pub mod TheShortestText
 pub mod Examples
 pub mod OrderOfRefusals
+pub mod WhatASuccessWrote

@@ -7,9 +7,8 @@ use mathlib.Core.List.{List, [], _∷_, _++_, append-assoc}
 use Rattle.paper.specs.Choice.{_gives_or_}
 use Rattle.paper.specs.Starting.{startingSets, started, opening}
 use Rattle.paper.specs.Marks.{recording}
-use Rattle.paper.specs.Characters.{standingAt}
-use Rattle.paper.specs.Answering.{answerInStep, answerStanding, answerTo, endWithin, endOfText}
-use Rattle.paper.specs.Texts.{readerAfter, answersFrom}
+use Rattle.paper.specs.Answering.{answerInStep, answerStanding, answerTo}
+use Rattle.paper.specs.Texts.{answersFrom}
 use Rattle.paper.specs.Surveying.{firstRefusal}
 use Rattle.paper.specs.WrittenForms.{Entry, given, leftOut, withAnswer, sequenceFrom, setsWith}
 use Rattle.paper.specs.declared.Form.{Form}
@@ -22,14 +21,13 @@ use Rattle.paper.specs.declared.Standing.{Standing}
 use Rattle.paper.specs.declared.Reader.{Reader}
 use Rattle.paper.specs.declared.Answer.{Answer}
 use Rattle.paper.specs.declared.Answered.{Answered}
-use Rattle.paper.specs.declared.EndWord.{EndWord}
 use Rattle.paper.specs.declared.FirstRefusal.{FirstRefusal}
 use Rattle.paper.specs.declared.FirstRefusal.the-variants.{Never}
 use Rattle.paper.proofs.Choices.{impossible}
 use Rattle.paper.proofs.LawfulAnswers.{IsInStep}
-use Rattle.paper.proofs.AnswersWithoutTheRecord.{answerOf, recordOf, answers-alike, reader-alike}
+use Rattle.paper.proofs.AnswersWithoutTheRecord.{answerOf, recordOf, answers-alike}
 use Rattle.paper.proofs.RecordsNotCompleted.{form-of}
-use Rattle.paper.proofs.OpeningsTakenWhole.{withOpening, onGround, reader-past-opening, ShowsG1, shows-of, by-openings}
+use Rattle.paper.proofs.OpeningsTakenWhole.{withOpening, onGround, ShowsG1, shows-of, by-openings}
 use Rattle.paper.proofs.ReadingOn.{readerWith}
 use Rattle.paper.proofs.WhatCanBeWritten.{CanBeWritten, Steps, ended, said, opened, entriesOf, AllCanBeWritten, SoFar, Stands, NotRefused}
 use Rattle.paper.proofs.WhatIsReadCanBeWritten.{fair-standing, not-refused, past, refused-after}
@@ -56,23 +54,15 @@ pub record InSeven (r : Reader) (w : Within) : Type 0 where
   pub so-far : SoFar (r .sets) w
   pub g0 : r .sets .g0 .kind ≡ Of94
 
--- of a text from a reader: where it refuses nothing and ends whole
+-- of a text from a reader: where it refuses nothing
 abbrev pub ComesFirst : Reader → List ℕ → List Entry → Type 0
-ComesFirst r text l = (w : Within) → InSeven r w → (at : ℕ) → firstRefusal (answersFrom at r text) ≡ Never →
-    endOfText (readerAfter r text) ≡ EndWord.Whole → First (r .sets) (r .gl) w text l
+ComesFirst r text l = (w : Within) → InSeven r w → (at : ℕ) → firstRefusal (answersFrom at r text) ≡ Never → First (r .sets) (r .gl) w text l
 
 -- ---- the end
 
-at-end-within : (t : Sets) (gl : Element) (w : Within) → endWithin w ≡ EndWord.Whole → First t gl w [] []
-unfolding shortestFrom
-at-end-within t gl Within.Ground e = record { steps = ended; is = refl; all = tt; first = λ pre came. nothing-first _ }
-at-end-within t gl (Within.Sequence s) e = impossible (cc)
-at-end-within t gl (Within.SingleShift g) e = impossible (cc)
-at-end-within t gl (Within.Character g a p) e = impossible (cc)
-
 at-end : (r : Reader) → ComesFirst r [] []
-at-end r w here at never whole =
-    at-end-within (r .sets) (r .gl) w (sym (ap (λ (s : Standing). endOfText (standingAt s r)) (here .stands)) ∙ whole)
+unfolding shortestFrom
+at-end r w here at never = record { steps = ended; is = refl; all = tt; first = λ pre came. nothing-first _ }
 
 -- ---- a byte
 
@@ -159,7 +149,7 @@ in-step : {r : Reader} {w : Within} → InSeven r w → IsInStep (r .standing)
 in-step here = subst IsInStep (sym (here .stands)) tt
 
 module _ (r : Reader) (b : ℕ) (bs : List ℕ) (l : List Entry) (more : ComesFirst (answerOf r b .reader) bs l) (w : Within) (here : InSeven r w)
-    (at : ℕ) (never : firstRefusal (answersFrom at r (b ∷ bs)) ≡ Never) (whole : endOfText (readerAfter r (b ∷ bs)) ≡ EndWord.Whole) where
+    (at : ℕ) (never : firstRefusal (answersFrom at r (b ∷ bs)) ≡ Never) where
   abbrev x : Answered
   x = answerOf r b
 
@@ -182,10 +172,6 @@ module _ (r : Reader) (b : ℕ) (bs : List ℕ) (l : List Entry) (more : ComesFi
   refuses-nothing =
       ap firstRefusal (answers-alike bs (suc at) (x .reader .gone) (recordOf r b) (x .reader)) ∙
       later-refuse-nothing (x .answer) at later never
-
-  ends-whole : endOfText (readerAfter (x .reader) bs) ≡ EndWord.Whole
-  unfolding answerTo
-  ends-whole = ap endOfText (reader-alike bs (x .reader .gone) (recordOf r b) (x .reader)) ∙ whole
 
   -- the answer is that of a reader of 7-bit form that stands there
   as-read : x ≡ answerInStep w b (readerWith Form.Seven (r .sets) (r .gl) G1 w)
@@ -213,7 +199,7 @@ module _ (r : Reader) (b : ℕ) (bs : List ℕ) (l : List Entry) (more : ComesFi
       by : (s : Standing) → x .reader .standing ≡ s → Stands (x .reader .sets) s →
           First (r .sets) (r .gl) w (b ∷ bs) (withAnswer (x .answer) l)
       by (Standing.InStep v) there so-far =
-          joined b bs l x v there (more v (next v there so-far) (suc at) refuses-nothing ends-whole) (r .sets) (here .g0) (r .gl) sets-are w
+          joined b bs l x v there (more v (next v there so-far) (suc at) refuses-nothing) (r .sets) (here .g0) (r .gl) sets-are w
           (fair .0) ok
           (λ pre came. subst (Outcome (r .sets) (r .gl) (pre ++ (b ∷ []))) (sym as-read) (after-byte (r .sets) (r .gl) b w pre (here .so-far) came))
       by (Standing.Lost k n) there so-far = absurd so-far
@@ -237,12 +223,6 @@ module _ (r : Reader) (rest : List ℕ) (l : List Entry) (w : Within) (here : In
       ap (λ (y : Reader). firstRefusal (answersFrom at y text)) (sym as-grounded) ∙
       ap firstRefusal (answers-alike text at 0 (r .gone) r) ∙ never
 
-  opening-ends-whole : endOfText (readerAfter r text) ≡ EndWord.Whole → endOfText (readerAfter (started Form.Seven) rest) ≡ EndWord.Whole
-  opening-ends-whole whole =
-      ap endOfText (sym (reader-past-opening Form.Seven (r .sets) (r .gl) G1 (λ seven. refl) rest) ∙
-      ap (λ (y : Reader). readerAfter y text) (sym as-grounded)) ∙
-      ap endOfText (reader-alike text 0 (r .gone) r) ∙ whole
-
   opened-first : First startingSets G0 Within.Ground rest l → First (r .sets) (r .gl) Within.Ground text (withOpening l)
   unfolding shortestFrom
   opened-first more = record {
@@ -261,19 +241,16 @@ opening-first : (r : Reader) (rest : List ℕ) (l : List Entry) → r .standing 
     ComesFirst (started (r .form)) rest l → ComesFirst r (opening (r .form) ++ rest) (withOpening l)
 opening-first r rest l ground shows more w here =
     subst (λ (v : Within). (at : ℕ) → firstRefusal (answersFrom at r (opening (r .form) ++ rest)) ≡ Never →
-    endOfText (readerAfter r (opening (r .form) ++ rest)) ≡ EndWord.Whole →
     First (r .sets) (r .gl) v (opening (r .form) ++ rest) (withOpening l)) (ap withinOf (sym ground ∙ here .stands))
     (subst (λ (m : Form). ComesFirst (started m) rest l → (at : ℕ) → firstRefusal (answersFrom at r (opening m ++ rest)) ≡ Never →
-    endOfText (readerAfter r (opening m ++ rest)) ≡ EndWord.Whole →
     First (r .sets) (r .gl) Within.Ground (opening m ++ rest) (withOpening l)) (sym (here .form))
-    (λ after at never whole.
+    (λ after at never.
     opened-first r rest l w here ground (after Within.Ground at-start (past at (opening Form.Seven))
-    (opening-refuses-nothing r rest l w here ground at never) (opening-ends-whole r rest l w here ground whole))) more)
+    (opening-refuses-nothing r rest l w here ground at never))) more)
 
 -- ---- a text
 
 pub none-comes-before : (text : List ℕ) → firstRefusal (answersFrom 0 (started Form.Seven) text) ≡ Never →
-    endOfText (readerAfter (started Form.Seven) text) ≡ EndWord.Whole →
     First startingSets G0 Within.Ground text (sequenceFrom (started Form.Seven) text)
-none-comes-before text never whole =
-    by-openings ComesFirst at-end byte-first opening-first text (started Form.Seven) (λ seven. refl) Within.Ground at-start 0 never whole
+none-comes-before text never =
+    by-openings ComesFirst at-end byte-first opening-first text (started Form.Seven) (λ seven. refl) Within.Ground at-start 0 never

@@ -43,14 +43,14 @@ module _ (m : Form) (text : List ℕ) (room work : ℕ) where
         pub done : n ≤ room → shortening m text room work ≡ Converted.Done n
         done fits = both-tested ∙ ap (λ (x : FirstRefusal). intoRoom x n room) accepted ∙ rw (le-leb n room fits)
 
-  -- ---- what the two lent buffers hold afterwards
+-- ---- what the two lent buffers hold afterwards
 
-  module _ (buffer lent : List ℕ) where
-    pub refusal-leaves : (r : Refusal) (at : ℕ) → shortening m text (length buffer) (length lent) ≡ Converted.Refused r at →
-        (bufferAfter m text buffer lent ≡ buffer) × (workAfter m text buffer lent ≡ lent)
-    refusal-leaves r at e = (rw (e), rw (e))
+module _ (m : Form) (text buffer work : List ℕ) where
+  pub refusal-leaves : (r : Refusal) (at : ℕ) → shortening m text (length buffer) (length work) ≡ Converted.Refused r at →
+      (bufferAfter m text buffer work ≡ buffer) × (workAfter m text buffer work ≡ work)
+  refusal-leaves r at e = (rw (e), rw (e))
 
-    pub success-leaves : (n : ℕ) → shortening m text (length buffer) (length lent) ≡ Converted.Done n →
-        (bufferAfter m text buffer lent ≡ over (shortestText m text) buffer) ×
-        (workAfter m text buffer lent ≡ replicate 65536 0 ++ drop 65536 lent)
-    success-leaves n e = (rw (e), rw (e, length-replicate {A = ℕ} 65536 0))
+  pub success-leaves : (n : ℕ) → shortening m text (length buffer) (length work) ≡ Converted.Done n →
+      (bufferAfter m text buffer work ≡ over (shortestText m text) buffer) ×
+      (workAfter m text buffer work ≡ replicate 65536 0 ++ drop 65536 work)
+  success-leaves n e = (rw (e), rw (e, length-replicate {A = ℕ} 65536 0))

@@ -1,4 +1,5 @@
--- Shorter first, then byte order: a total order of texts, kept where texts are put together piece by piece.
+-- Shorter first, then byte order: an order of texts, kept where texts are put together piece by piece; of two texts that are neither after
+-- the other there is one.
 use Prim.Native.Nat.{ℕ, _<_, _≤_}
 use mathlib.Core.Path.{_≡_, refl, ap, _∙_}
 use mathlib.Core.List.{List, [], _∷_, _++_}

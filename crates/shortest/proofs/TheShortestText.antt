@@ -1,5 +1,5 @@
--- What is asked of the text. Of an accepted text in either form, the text that is written is the shortest of its sequence; there is one
--- shortest text of a sequence; and it is no longer than the 7-bit written form, so at most three times as long as the text.
+-- What request #108 asks. Of an accepted text in either form, the text that is written is the shortest of its sequence; no two texts are
+-- shortest for a sequence; and it is no longer than the 7-bit written form, so at most three times as long as the text.
 use Prim.Native.Nat.{ℕ, _*_, _≤_}
 use mathlib.Core.Path.{_≡_, refl, sym, ap, _∙_, subst}
 use mathlib.Core.List.{List, []}
@@ -13,15 +13,16 @@ use Rattle.paper.specs.declared.Element.the-variants.{G0}
 use Rattle.paper.proofs.WhatCanBeWritten.{Steps, ended, said, opened, entriesOf, InSteps}
 use Rattle.paper.proofs.WhatIsReadCanBeWritten.{can-be-written}
 use Rattle.paper.proofs.ReadingOn.{ReadsAs}
-use Rattle.paper.proofs.AcceptedTextsEndWhole.{refuses-nothing, accepted-ends-whole}
+use Rattle.paper.proofs.AcceptedTextsEndWhole.{refuses-nothing}
 use Rattle.paper.proofs.SameSequence.{accepted-where, same-sequence}
 use Rattle.paper.proofs.OutputWithin.{output-within}
 use Rattle.shortest.specs.ByteOrder.{NotAfter}
-use Rattle.shortest.specs.Shortest.{Reads, Shortest}
+use Rattle.shortest.specs.Shortest.{Shortest}
 use Rattle.shortest.specs.ShortestText.{Gathered, gathered, before, stepsOf, shortestFrom, shortestOf}
 use Rattle.shortest.proofs.TextsInOrder.{no-longer, one-of-two}
 use Rattle.shortest.proofs.NoneComesBefore.{none-comes-before}
 use Rattle.shortest.proofs.TheTextReadsBack.{text-reads-back}
+use Rattle.shortest.proofs.SequencesShowRefusals.{same-refuses-nothing}
 
 -- a sequence has one list of steps
 gathered-again : (s : Steps) → gathered (entriesOf s) ≡ record { left = 0; steps = s }
@@ -34,7 +35,7 @@ steps-again s = ap (λ (g : Gathered). g .steps) (gathered-again s)
 
 -- two texts that are shortest for a sequence are one
 pub one-shortest : (sequence : List Entry) (text other : List ℕ) → Shortest sequence text → Shortest sequence other → text ≡ other
-one-shortest sequence text other a b = one-of-two (a .first other (b .reads)) (b .first text (a .reads))
+one-shortest sequence text other a b = one-of-two (a .first other (b .reads .same)) (b .first text (a .reads .same))
 
 module _ (m : Form) (text : List ℕ) (accepted : Accepted m text) where
   abbrev sequence : List Entry
@@ -53,11 +54,11 @@ module _ (m : Form) (text : List ℕ) (accepted : Accepted m text) where
       (text-reads-back (can .steps) startingSets G0 refl (can .all)))
 
   -- none that reads as the sequence comes before it
-  comes-first : (other : List ℕ) → Reads sequence other → NotAfter (shortestOf sequence) other
-  comes-first other reads =
-      let found = none-comes-before other (refuses-nothing Form.Seven other (reads .accepted)) (accepted-ends-whole Form.Seven other (reads .accepted)) in
-      let same : stepsOf sequence ≡ found .steps = ap stepsOf (sym (reads .same) ∙ found .is) ∙ steps-again (found .steps) in
-      subst (λ (s : Steps). NotAfter (shortestFrom s startingSets G0) other) (sym same) (found .first [] refl)
+  comes-first : (other : List ℕ) → sequenceOf Form.Seven other ≡ sequence → NotAfter (shortestOf sequence) other
+  comes-first other same =
+      let found = none-comes-before other (same-refuses-nothing text other (started m) (started Form.Seven) same (refuses-nothing m text accepted)) in
+      let steps : stepsOf sequence ≡ found .steps = ap stepsOf (sym same ∙ found .is) ∙ steps-again (found .steps) in
+      subst (λ (s : Steps). NotAfter (shortestFrom s startingSets G0) other) (sym steps) (found .first [] refl)
 
   pub is-the-shortest : Shortest sequence (shortestOf sequence)
   is-the-shortest = record {
@@ -71,7 +72,7 @@ module _ (m : Form) (text : List ℕ) (accepted : Accepted m text) where
   pub no-longer-than-written : length (shortestOf sequence) ≤ length (output m Form.Seven text)
   no-longer-than-written =
       let written = same-sequence m Form.Seven text accepted in
-      no-longer (comes-first (output m Form.Seven text) (record { accepted = written .0; same = written .2 }))
+      no-longer (comes-first (output m Form.Seven text) (written .2))
 
   pub shortest-within : length (shortestOf sequence) ≤ 3 * length text
   shortest-within = omega (arith, no-longer-than-written, output-within m Form.Seven text)

@@ -23,7 +23,7 @@ workLength = 65536
 abbrev pub shortestText : Form → List ℕ → List ℕ
 shortestText m text = shortestOf (sequenceOf m text)
 
--- 13 for a longer input, 14 for a shorter work buffer, then 1 to 7 and 9
+-- 13 for a longer input, 14 for a shorter work buffer, then 1 to 7 and 9; the places of 13, 14 and 9 are 0
 unfoldable pub shortening : Form → List ℕ → ℕ → ℕ → Converted
 shortening m text room work =
     leb (length text) longestInput gives

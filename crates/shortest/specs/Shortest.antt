@@ -13,6 +13,7 @@ pub record Reads (sequence : List Entry) (text : List ℕ) : Type 0 where
   pub accepted : Accepted Form.Seven text
   pub same : sequenceOf Form.Seven text ≡ sequence
 
+-- the others may also end inside
 pub record Shortest (sequence : List Entry) (text : List ℕ) : Type 0 where
   pub reads : Reads sequence text
-  pub first : (other : List ℕ) → Reads sequence other → NotAfter text other
+  pub first : (other : List ℕ) → sequenceOf Form.Seven other ≡ sequence → NotAfter text other

@@ -89,7 +89,7 @@ bytesUnder gl (Answer.Refused r) = []
 bytesUnder gl Answer.Skipped = []
 bytesUnder gl (Answer.InStep n) = []
 
--- more than any way round costs
+-- more than a shift, an answer and a shift back cost
 abbrev pub far : ℕ
 far = 16
 
