@@ -208,7 +208,7 @@ abbrev pub readerOf : Form → Writer → Reader
 readerOf m w = readerWith m (w .sets) (shown m (w .gl)) G1 Within.Ground
 
 -- in 7-bit form no answer's bytes begin with SI
-pub not-shift-in : (k : Kind) (q : ℕ) → setByte k q ≡ OfSet → q ≡ si → ⊥
+not-shift-in : (k : Kind) (q : ℕ) → setByte k q ≡ OfSet → q ≡ si → ⊥
 unfolding setByte between
 not-shift-in k q of-set e = impossible (cc (ap (setByte k) e))
 

@@ -32,8 +32,8 @@ use Rattle.shortest.specs.ShortestText.{isOf94, bytesUnder, far, cost, shiftTo,
 use Rattle.shortest.specs.ShortestText.{costOf, costs}
 use Rattle.shortest.proofs.BytesOfAnAnswer.{short-at-home, Clear, byte-alone, two-bytes, clear-bytes}
 use Rattle.shortener.specs.Fours.{indexOf}
-use Rattle.shortener.specs.Codes.{ofBlank, ofAlike, ofOpening, middle, last, placeOfRank, characterCost, blankCost, bitOf, costBy}
-use Rattle.shortener.specs.Codes.{placeBy, kindBit, blankCode, alikeCode, codeAlike, codeOf, codesOf}
+use Rattle.shortener.specs.Codes.{ofSpaceOrDelete, ofAlike, ofOpening, middle, last, placeOfRank, characterCost, spaceOrDeleteCost, bitOf, costBy}
+use Rattle.shortener.specs.Codes.{placeBy, kindBit, spaceOrDeleteCode, alikeCode, codeAlike, codeOf, codesOf}
 use Rattle.shortener.specs.Choices.{isBefore, chosenBy, choiceAt, packed, withCode, choicesWith, costsBy, choiceIn}
 
 -- ---- what an answer costs
@@ -49,13 +49,13 @@ module _ (place n : ℕ) (low : place ≤ 2) (few : n ≤ 4) where
   unfolding costBy alikeCode
   alike-cost e =
       let rest : (ofAlike + 16 * place + n) % 16 ≡ n = omega arith in
-      rw (le-ltb (ofAlike + 16 * place + n) ofBlank (omega arith), le-ltb (ofAlike + 16 * place + n) ofAlike (omega arith), rest)
+      rw (le-ltb (ofAlike + 16 * place + n) ofSpaceOrDelete (omega arith), le-ltb (ofAlike + 16 * place + n) ofAlike (omega arith), rest)
 
   alike-place : (shown : ℕ) → placeBy (alikeCode place n) shown ≡ place
   unfolding placeBy alikeCode
   alike-place shown =
       let rest : (ofAlike + 16 * place + n) / 16 - ofAlike / 16 ≡ place = omega arith in
-      rw (le-ltb (ofAlike + 16 * place + n) ofBlank (omega arith), le-ltb (ofAlike + 16 * place + n) ofAlike (omega arith), rest)
+      rw (le-ltb (ofAlike + 16 * place + n) ofSpaceOrDelete (omega arith), le-ltb (ofAlike + 16 * place + n) ofAlike (omega arith), rest)
 
   alike-no-opening : eqb (alikeCode place n) ofOpening ≡ false
   unfolding alikeCode
@@ -113,38 +113,38 @@ character-cost-is G3 G2 p t x = shifted-length p
 character-cost-is G3 G3 p t x = sym (positions-length p)
 
 -- SPACE and DELETE, by the kinds of the four sets
-blank-cost-is : (k : Kind) → blankCost (kindBit k) ≡ (isOf94 k gives 1 or far)
-unfolding blankCost
-blank-cost-is Of94 = refl
-blank-cost-is Of96 = refl
+space-or-delete-cost-is : (k : Kind) → spaceOrDeleteCost (kindBit k) ≡ (isOf94 k gives 1 or far)
+unfolding spaceOrDeleteCost
+space-or-delete-cost-is Of94 = refl
+space-or-delete-cost-is Of96 = refl
 
 bit-bound : (k : Kind) → kindBit k ≤ 1
 bit-bound Of94 = omega arith
 bit-bound Of96 = omega arith
 
 module _ (kinds : Element → Kind) where
-  blank-bit : (e : Element) → bitOf (blankCode kinds % 16) e ≡ kindBit (kinds e)
-  blank-bit G0 = omega (arith, bit-bound (kinds G0), bit-bound (kinds G1), bit-bound (kinds G2), bit-bound (kinds G3))
-  blank-bit G1 = omega (arith, bit-bound (kinds G0), bit-bound (kinds G1), bit-bound (kinds G2), bit-bound (kinds G3))
-  blank-bit G2 = omega (arith, bit-bound (kinds G0), bit-bound (kinds G1), bit-bound (kinds G2), bit-bound (kinds G3))
-  blank-bit G3 = omega (arith, bit-bound (kinds G0), bit-bound (kinds G1), bit-bound (kinds G2), bit-bound (kinds G3))
+  bit-of-element : (e : Element) → bitOf (spaceOrDeleteCode kinds % 16) e ≡ kindBit (kinds e)
+  bit-of-element G0 = omega (arith, bit-bound (kinds G0), bit-bound (kinds G1), bit-bound (kinds G2), bit-bound (kinds G3))
+  bit-of-element G1 = omega (arith, bit-bound (kinds G0), bit-bound (kinds G1), bit-bound (kinds G2), bit-bound (kinds G3))
+  bit-of-element G2 = omega (arith, bit-bound (kinds G0), bit-bound (kinds G1), bit-bound (kinds G2), bit-bound (kinds G3))
+  bit-of-element G3 = omega (arith, bit-bound (kinds G0), bit-bound (kinds G1), bit-bound (kinds G2), bit-bound (kinds G3))
 
-  blank-bounds : (ofBlank ≤ blankCode kinds) × (blankCode kinds < ofAlike)
-  blank-bounds = (
+  space-or-delete-bounds : (ofSpaceOrDelete ≤ spaceOrDeleteCode kinds) × (spaceOrDeleteCode kinds < ofAlike)
+  space-or-delete-bounds = (
     omega arith,
     omega (arith, bit-bound (kinds G0), bit-bound (kinds G1), bit-bound (kinds G2), bit-bound (kinds G3)),
   )
 
-  blank-costs : (e : Element) → costBy (blankCode kinds) e ≡ (isOf94 (kinds e) gives 1 or far)
+  space-or-delete-costs : (e : Element) → costBy (spaceOrDeleteCode kinds) e ≡ (isOf94 (kinds e) gives 1 or far)
   unfolding costBy
-  blank-costs e =
-      rw (le-ltb (blankCode kinds) ofBlank (blank-bounds .0), lt-ltb (blankCode kinds) ofAlike (blank-bounds .1), blank-bit e)
-      (blank-cost-is (kinds e))
+  space-or-delete-costs e =
+      rw (le-ltb (spaceOrDeleteCode kinds) ofSpaceOrDelete (space-or-delete-bounds .0), lt-ltb (spaceOrDeleteCode kinds) ofAlike (space-or-delete-bounds .1), bit-of-element e)
+      (space-or-delete-cost-is (kinds e))
 
-  blank-place : (shown : ℕ) → placeBy (blankCode kinds) shown ≡ last
+  space-or-delete-place : (shown : ℕ) → placeBy (spaceOrDeleteCode kinds) shown ≡ last
   unfolding placeBy
-  blank-place shown =
-      rw (le-ltb (blankCode kinds) ofBlank (blank-bounds .0), lt-ltb (blankCode kinds) ofAlike (blank-bounds .1))
+  space-or-delete-place shown =
+      rw (le-ltb (spaceOrDeleteCode kinds) ofSpaceOrDelete (space-or-delete-bounds .0), lt-ltb (spaceOrDeleteCode kinds) ofAlike (space-or-delete-bounds .1))
 
 -- all else is written alike, in four bytes at the most
 cost-alike : (a : Answer) → length (bytesOfAnswer Form.Seven a) ≤ 4 → (e : Element) →
@@ -155,8 +155,8 @@ cost-alike a few e = alike-cost (placeOfRank (rank (bytesOfAnswer Form.Seven a))
 pub cost-told : (t : Sets) (a : Answer) (e : Element) → costBy (codeOf t a) e ≡ cost t a e
 cost-told t Answer.NothingYet e = cost-alike Answer.NothingYet (omega arith) e
 cost-told t (Answer.Char own x p) e = character-costs own e p ∙ character-cost-is own e p t x
-cost-told t Answer.Space e = blank-costs (λ e. setIn t e .kind) e
-cost-told t Answer.Delete e = blank-costs (λ e. setIn t e .kind) e
+cost-told t Answer.Space e = space-or-delete-costs (λ e. setIn t e .kind) e
+cost-told t Answer.Delete e = space-or-delete-costs (λ e. setIn t e .kind) e
 cost-told t (Answer.Control w f n) e = cost-alike (Answer.Control w f n) (short-at-home (Answer.Control w f n)) e
 cost-told t (Answer.DesignateControls w f) e = cost-alike (Answer.DesignateControls w f) (short-at-home (Answer.DesignateControls w f)) e
 cost-told t (Answer.Designate g x) e = cost-alike (Answer.Designate g x) (short-at-home (Answer.Designate g x)) e
@@ -278,8 +278,8 @@ unfolding placeOfRank
 place-told t Answer.NothingYet gl stays can = impossible (cc)
 place-told t (Answer.Char own x p) gl stays can =
     character-places own p (indexOf gl) ∙ character-place-is own gl x p (setIn t own .kind) (can .of-set)
-place-told t Answer.Space gl stays can = blank-place (λ e. setIn t e .kind) (indexOf gl)
-place-told t Answer.Delete gl stays can = blank-place (λ e. setIn t e .kind) (indexOf gl)
+place-told t Answer.Space gl stays can = space-or-delete-place (λ e. setIn t e .kind) (indexOf gl)
+place-told t Answer.Delete gl stays can = space-or-delete-place (λ e. setIn t e .kind) (indexOf gl)
 place-told t (Answer.Control w f n) gl stays can = place-alike (Answer.Control w f n) (short-at-home (Answer.Control w f n)) (indexOf gl)
 place-told t (Answer.DesignateControls w f) gl stays can =
     place-alike (Answer.DesignateControls w f) (short-at-home (Answer.DesignateControls w f)) (indexOf gl)
@@ -301,7 +301,7 @@ alike-answer : (a : Answer) → length (bytesOfAnswer Form.Seven a) ≤ 4 → eq
 alike-answer a few = alike-no-opening (placeOfRank (rank (bytesOfAnswer Form.Seven a))) (length (bytesOfAnswer Form.Seven a))
     (place-bound (rank (bytesOfAnswer Form.Seven a))) few
 
-character-low : (own : Element) (p : PositionBytes) → 16 * indexOf own + bytesSoFar p < ofBlank
+character-low : (own : Element) (p : PositionBytes) → 16 * indexOf own + bytesSoFar p < ofSpaceOrDelete
 character-low G0 p = omega (arith, few-positions p)
 character-low G1 p = omega (arith, few-positions p)
 character-low G2 p = omega (arith, few-positions p)
@@ -313,8 +313,8 @@ below-opening n h = ne-eqb n ofOpening (λ e. omega arith)
 pub no-opening : (t : Sets) (a : Answer) → eqb (codeOf t a) ofOpening ≡ false
 no-opening t Answer.NothingYet = alike-answer Answer.NothingYet (omega arith)
 no-opening t (Answer.Char own x p) = below-opening (16 * indexOf own + bytesSoFar p) (omega (arith, character-low own p))
-no-opening t Answer.Space = below-opening (blankCode (λ e. setIn t e .kind)) (blank-bounds (λ e. setIn t e .kind) .1)
-no-opening t Answer.Delete = below-opening (blankCode (λ e. setIn t e .kind)) (blank-bounds (λ e. setIn t e .kind) .1)
+no-opening t Answer.Space = below-opening (spaceOrDeleteCode (λ e. setIn t e .kind)) (space-or-delete-bounds (λ e. setIn t e .kind) .1)
+no-opening t Answer.Delete = below-opening (spaceOrDeleteCode (λ e. setIn t e .kind)) (space-or-delete-bounds (λ e. setIn t e .kind) .1)
 no-opening t (Answer.Control w f n) = alike-answer (Answer.Control w f n) (short-at-home (Answer.Control w f n))
 no-opening t (Answer.DesignateControls w f) = alike-answer (Answer.DesignateControls w f) (short-at-home (Answer.DesignateControls w f))
 no-opening t (Answer.Designate e x) = alike-answer (Answer.Designate e x) (short-at-home (Answer.Designate e x))

@@ -33,7 +33,7 @@ use Rattle.items.proofs.BytesInANumber.{length-of-bytes}
 use Rattle.items.proofs.ItemsByBytes.{saidBytes, Said}
 use Rattle.shortest.specs.ShortestText.{bytesUnder, rank}
 use Rattle.shortener.specs.Fours.{indexOf, indexAt}
-use Rattle.shortener.specs.Codes.{placeOfRank, blankCode, alikeCode, codeOf}
+use Rattle.shortener.specs.Codes.{placeOfRank, spaceOrDeleteCode, alikeCode, codeOf}
 use Rattle.shortener.specs.Under.{controlInSeven, alike, characterUnder, under, alikeCodeOf, codeBy, Fit}
 
 index-of-number : (e : Element) → indexAt (elementNumber e) ≡ indexOf e
@@ -104,8 +104,8 @@ module _
   code-said (Answer.Char e y p) stays can word are said =
       rw (word, are, said) (ap (λ (n : ℕ). 16 * n + length (positionValues p)) (index-of-number e) ∙
       ap (λ (n : ℕ). 16 * indexOf e + n) (position-count p))
-  code-said Answer.Space stays can word are said = rw word (ap blankCode (λ i e. kinds e i))
-  code-said Answer.Delete stays can word are said = rw word (ap blankCode (λ i e. kinds e i))
+  code-said Answer.Space stays can word are said = rw word (ap spaceOrDeleteCode (λ i e. kinds e i))
+  code-said Answer.Delete stays can word are said = rw word (ap spaceOrDeleteCode (λ i e. kinds e i))
   code-said (Answer.Control w f n) stays can word are said =
       rw word (sym (ap (λ (k : ℕ). alikeCodeOf k bytes) word) ∙ alike-code x bytes _ (control-alike x bytes w f n (word, are, said)))
   code-said (Answer.DesignateControls w f) stays can word are said =

@@ -14,7 +14,7 @@ use Rattle.paper.specs.declared.Element.the-variants.{G0, G1, G2, G3}
 use Rattle.paper.proofs.Choices.{gives-has, gives-by}
 use Rattle.shortest.specs.ShortestText.{moving, cheapest, least}
 use Rattle.shortener.specs.Fours.{indexOf, indexAt}
-use Rattle.shortener.specs.Codes.{ofBlank, ofAlike, ofOpening, bitOf, characterCost, blankCost, costBy, placeBy}
+use Rattle.shortener.specs.Codes.{ofSpaceOrDelete, ofAlike, ofOpening, bitOf, characterCost, spaceOrDeleteCost, costBy, placeBy}
 use Rattle.shortener.specs.Choices.{isBefore, chosenBy, choiceAt, withCode, costsBy}
 
 -- one choice more
@@ -44,9 +44,9 @@ small-choice-at c code gl =
     (small-index gl)
 
 pub small-cost : (code : ℕ) (e : Element) → costBy code e ≤ 17
-unfolding costBy characterCost blankCost
+unfolding costBy characterCost spaceOrDeleteCost
 small-cost code e =
-    either 17 (ltb code ofBlank)
+    either 17 (ltb code ofSpaceOrDelete)
     (either 17 (eqb (code / 16) (indexOf e)) (omega arith) (either 17 (ltb (code / 16) (indexOf G2)) (omega arith) (omega arith)))
     (either 17 (ltb code ofAlike) (either 17 (eqb (bitOf (code % 16) e) 1) (omega arith) (omega arith)) (omega arith))
 

@@ -21,8 +21,8 @@ use Rattle.paper.proofs.WhatCanBeWritten.{Steps, ended, said, opened}
 use Rattle.shortest.specs.ShortestText.{far, shiftTo, rank}
 use Rattle.shortener.specs.Fours.{indexOf}
 
-abbrev pub ofBlank : ℕ
-ofBlank = 0x40
+abbrev pub ofSpaceOrDelete : ℕ
+ofSpaceOrDelete = 0x40
 
 abbrev pub ofAlike : ℕ
 ofAlike = 0x80
@@ -54,8 +54,8 @@ characterCost own shown n =
     ltb own (indexOf G2) gives far or
     n + 2
 
-unfoldable pub blankCost : ℕ → ℕ
-blankCost bit = eqb bit 1 gives 1 or far
+unfoldable pub spaceOrDeleteCost : ℕ → ℕ
+spaceOrDeleteCost bit = eqb bit 1 gives 1 or far
 
 abbrev pub bitOf : ℕ → Element → ℕ
 bitOf mask G0 = mask % 2
@@ -65,13 +65,13 @@ bitOf mask G3 = mask / 8
 
 unfoldable pub costBy : ℕ → Element → ℕ
 costBy code e =
-    ltb code ofBlank gives characterCost (code / 16) (indexOf e) (code % 16) or
-    ltb code ofAlike gives blankCost (bitOf (code % 16) e) or
+    ltb code ofSpaceOrDelete gives characterCost (code / 16) (indexOf e) (code % 16) or
+    ltb code ofAlike gives spaceOrDeleteCost (bitOf (code % 16) e) or
     code % 16
 
 unfoldable pub placeBy : ℕ → ℕ → ℕ
 placeBy code shown =
-    ltb code ofBlank gives
+    ltb code ofSpaceOrDelete gives
     (eqb (code / 16) shown gives last or
     ltb (code / 16) (indexOf G2) gives last or
     middle) or
@@ -84,8 +84,8 @@ abbrev pub kindBit : Kind → ℕ
 kindBit Kind.Of94 = 1
 kindBit Kind.Of96 = 0
 
-abbrev pub blankCode : (Element → Kind) → ℕ
-blankCode kinds = ofBlank + kindBit (kinds G0) + 2 * kindBit (kinds G1) + 4 * kindBit (kinds G2) + 8 * kindBit (kinds G3)
+abbrev pub spaceOrDeleteCode : (Element → Kind) → ℕ
+spaceOrDeleteCode kinds = ofSpaceOrDelete + kindBit (kinds G0) + 2 * kindBit (kinds G1) + 4 * kindBit (kinds G2) + 8 * kindBit (kinds G3)
 
 unfoldable pub alikeCode : ℕ → ℕ → ℕ
 alikeCode place n = ofAlike + 16 * place + n
@@ -96,8 +96,8 @@ codeAlike a = alikeCode (placeOfRank (rank (bytesOfAnswer Form.Seven a))) (lengt
 abbrev pub codeOf : Sets → Answer → ℕ
 codeOf t Answer.NothingYet = codeAlike Answer.NothingYet
 codeOf t (Answer.Char e x p) = 16 * indexOf e + bytesSoFar p
-codeOf t Answer.Space = blankCode (λ e. setIn t e .kind)
-codeOf t Answer.Delete = blankCode (λ e. setIn t e .kind)
+codeOf t Answer.Space = spaceOrDeleteCode (λ e. setIn t e .kind)
+codeOf t Answer.Delete = spaceOrDeleteCode (λ e. setIn t e .kind)
 codeOf t (Answer.Control w f n) = codeAlike (Answer.Control w f n)
 codeOf t (Answer.DesignateControls w f) = codeAlike (Answer.DesignateControls w f)
 codeOf t (Answer.Designate e x) = codeAlike (Answer.Designate e x)

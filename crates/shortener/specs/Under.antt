@@ -19,7 +19,7 @@ use Rattle.items.specs.States.{sizeIn}
 use Rattle.items.specs.declared.piece.Piece.{Piece}
 use Rattle.shortest.specs.ShortestText.{shiftTo, rank}
 use Rattle.shortener.specs.Fours.{indexOf, indexAt, elementAt}
-use Rattle.shortener.specs.Codes.{placeOfRank, blankCode, alikeCode}
+use Rattle.shortener.specs.Codes.{placeOfRank, spaceOrDeleteCode, alikeCode}
 
 -- a control by its byte in 8-bit form: a C1 function is ESC Fe, and Fe stands four columns before that byte
 unfoldable pub controlInSeven : List ℕ → List ℕ
@@ -49,8 +49,8 @@ alikeCodeOf word bytes = alikeCode (placeOf (alike word bytes)) (length (alike w
 unfoldable pub codeBy : List ℕ → Effect → List ℕ → ℕ
 codeBy cells x bytes =
     eqb (x .word .0) charWord gives 16 * indexAt (x .value) + length bytes or
-    eqb (x .word .0) spaceWord gives blankCode (λ e. kindOf (sizeIn cells (elementNumber e))) or
-    eqb (x .word .0) deleteWord gives blankCode (λ e. kindOf (sizeIn cells (elementNumber e))) or
+    eqb (x .word .0) spaceWord gives spaceOrDeleteCode (λ e. kindOf (sizeIn cells (elementNumber e))) or
+    eqb (x .word .0) deleteWord gives spaceOrDeleteCode (λ e. kindOf (sizeIn cells (elementNumber e))) or
     alikeCodeOf (x .word .0) bytes
 
 -- a shift first where GL shows another element

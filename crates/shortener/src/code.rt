@@ -21,9 +21,9 @@ ghost use Rattle.paper.specs.Results.{elementNumber};
 ghost use Rattle.charsets.specs.Sizes as sizes;
 ghost use Rattle.items.specs.States.{sizeIn};
 ghost use Rattle.shortener.specs.Fours.{fourOf, indexAt};
-ghost use Rattle.shortener.specs.Codes.{characterCost, blankCost, costBy, placeBy, kindBit, blankCode, alikeCode};
+ghost use Rattle.shortener.specs.Codes.{characterCost, spaceOrDeleteCost, costBy, placeBy, kindBit, spaceOrDeleteCode, alikeCode};
 
-pub(crate) const OF_BLANK: u8 = 0x40;
+pub(crate) const OF_SPACE_OR_DELETE: u8 = 0x40;
 
 pub(crate) const OF_ALIKE: u8 = 0x80;
 
@@ -56,8 +56,8 @@ fn character_cost(own: u8, shown: u8, count: u8) -> usize
     count as usize + SINGLE_SHIFT
 }
 
-fn blank_cost(bit: u8) -> usize
-    ensures { λ r. ⌜ r ≡ blankCost bit ⌝ }
+fn space_or_delete_cost(bit: u8) -> usize
+    ensures { λ r. ⌜ r ≡ spaceOrDeleteCost bit ⌝ }
 {
     if bit == 1 { 1 } else { FAR }
 }
@@ -67,7 +67,7 @@ pub(crate) fn costs_by(code: u8) -> Four
     ensures { λ r. ⌜ r ≡ fourOf (costBy code) ⌝ }
 {
     let count = code % ROW;
-    if code < OF_BLANK {
+    if code < OF_SPACE_OR_DELETE {
         let own = code / ROW;
         return Four {
             g0: character_cost(own, IN_G0, count),
@@ -78,10 +78,10 @@ pub(crate) fn costs_by(code: u8) -> Four
     }
     if code < OF_ALIKE {
         return Four {
-            g0: blank_cost(count % 2),
-            g1: blank_cost(count / 2 % 2),
-            g2: blank_cost(count / 4 % 2),
-            g3: blank_cost(count / 8),
+            g0: space_or_delete_cost(count % 2),
+            g1: space_or_delete_cost(count / 2 % 2),
+            g2: space_or_delete_cost(count / 4 % 2),
+            g3: space_or_delete_cost(count / 8),
         };
     }
     Four {
@@ -96,7 +96,7 @@ pub(crate) fn costs_by(code: u8) -> Four
 pub(crate) fn place_by(code: u8, shown: u8) -> u8
     ensures { λ r. ⌜ r ≡ placeBy code shown ⌝ }
 {
-    if code < OF_BLANK {
+    if code < OF_SPACE_OR_DELETE {
         let own = code / ROW;
         if own == shown {
             return LAST;
@@ -141,10 +141,10 @@ pub(crate) fn code_of_character(element: ElementNumber, count: usize) -> u8
     ROW * index_of(element) + count as u8
 }
 
-pub(crate) fn code_of_blank(state: &[u8; CELLS]) -> u8
-    ensures { λ r. ⌜ r ≡ blankCode (λ e. sizes.kindOf (sizeIn (now (state .entry)) (elementNumber e))) ⌝ }
+pub(crate) fn code_of_space_or_delete(state: &[u8; CELLS]) -> u8
+    ensures { λ r. ⌜ r ≡ spaceOrDeleteCode (λ e. sizes.kindOf (sizeIn (now (state .entry)) (elementNumber e))) ⌝ }
 {
-    OF_BLANK
+    OF_SPACE_OR_DELETE
         + bit_of(state, G0)
         + 2 * bit_of(state, G1)
         + 4 * bit_of(state, G2)

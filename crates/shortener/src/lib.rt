@@ -4,6 +4,7 @@
 mod choose;
 mod code;
 mod four;
+mod next;
 mod put;
 mod under;
 mod weigh;

@@ -2,12 +2,12 @@
 use crate::four::IN_G0;
 use crate::four::IN_G1;
 use crate::four::IN_G2;
+use crate::next::next_item;
 use crate::under::bytes_under;
 use crate::under::is_unit;
 use crate::under::led;
 use escapes::effect::Effect;
 use items::item::OPENING_WORD;
-use items::item::read_item;
 use items::piece::Piece;
 use items::piece::SECOND;
 use items::state::CELLS;
@@ -131,7 +131,7 @@ fn step(
         Putting form (now (text .entry)) lent (now (work .entry)) (now (state .exit)) r (now (buffer .exit)))
         ⌝ }
 {
-    let item = read_item(form, state, text, written.place);
+    let item = next_item(form, state, text, written.place);
     let effect = item.effect;
     let word = effect.word;
     if word.0 == OPENING_WORD {

@@ -3,8 +3,8 @@ use crate::code::FIRST;
 use crate::code::LAST;
 use crate::code::MIDDLE;
 use crate::code::code_alike;
-use crate::code::code_of_blank;
 use crate::code::code_of_character;
+use crate::code::code_of_space_or_delete;
 use crate::code::index_of;
 use crate::four::IN_G0;
 use crate::four::IN_G1;
@@ -152,8 +152,8 @@ pub(crate) fn code_of(state: &[u8; CELLS], effect: Effect, piece: Piece) -> u8
     let number = word.0;
     match number {
         CHAR_WORD => code_of_character(ElementNumber(effect.value), piece.count),
-        SPACE_WORD => code_of_blank(state),
-        DELETE_WORD => code_of_blank(state),
+        SPACE_WORD => code_of_space_or_delete(state),
+        DELETE_WORD => code_of_space_or_delete(state),
         _ => code_alike_of(effect, piece),
     }
 }

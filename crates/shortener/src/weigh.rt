@@ -8,10 +8,10 @@ use crate::four::TWO_BYTES;
 use crate::four::lower;
 use crate::four::lowest;
 use crate::four::sum;
+use crate::next::next_item;
 use crate::under::code_of;
 use crate::under::is_unit;
 use items::item::OPENING_WORD;
-use items::item::read_item;
 use items::state::CELLS;
 use items::state::change;
 use items::state::starting;
@@ -132,7 +132,7 @@ fn step(
         Weighing form (now (text .entry)) lent (now (state .exit)) r (now (work .exit)))
         ⌝ }
 {
-    let item = read_item(form, state, text, weighed.place);
+    let item = next_item(form, state, text, weighed.place);
     let effect = item.effect;
     let word = effect.word;
     if word.0 == OPENING_WORD {

@@ -7,21 +7,21 @@ use borrow.Author.Needs.{needs}
 use Rattle.paper.specs.declared.Element.{Element}
 use Rattle.paper.specs.declared.Element.the-variants.{G0, G1, G2, G3}
 use Rattle.shortener.specs.Fours.{indexOf}
-use Rattle.shortener.specs.Codes.{ofBlank, ofAlike, bitOf, characterCost, blankCost, costBy}
+use Rattle.shortener.specs.Codes.{ofSpaceOrDelete, ofAlike, bitOf, characterCost, spaceOrDeleteCost, costBy}
 use Rattle.shortener.proofs.code.costs_by.Statement.{statement}
 use Rattle.shortener.proofs.code.costs_by.Tie as tie
 
-of-character : (code : ℕ) → code < ofBlank → (e : Element) → costBy code e ≡ characterCost (code / 16) (indexOf e) (code % 16)
+of-character : (code : ℕ) → code < ofSpaceOrDelete → (e : Element) → costBy code e ≡ characterCost (code / 16) (indexOf e) (code % 16)
 unfolding costBy
-of-character code h e = rw (lt-ltb code ofBlank h)
+of-character code h e = rw (lt-ltb code ofSpaceOrDelete h)
 
-of-blank : (code : ℕ) → ofBlank ≤ code → code < ofAlike → (e : Element) → costBy code e ≡ blankCost (bitOf (code % 16) e)
+of-space-or-delete : (code : ℕ) → ofSpaceOrDelete ≤ code → code < ofAlike → (e : Element) → costBy code e ≡ spaceOrDeleteCost (bitOf (code % 16) e)
 unfolding costBy
-of-blank code h k e = rw (le-ltb code ofBlank h, lt-ltb code ofAlike k)
+of-space-or-delete code h k e = rw (le-ltb code ofSpaceOrDelete h, lt-ltb code ofAlike k)
 
 of-alike : (code : ℕ) → ofAlike ≤ code → (e : Element) → costBy code e ≡ code % 16
 unfolding costBy
-of-alike code h e = let k : ofBlank ≤ code = omega arith in rw (le-ltb code ofBlank k, le-ltb code ofAlike h)
+of-alike code h e = let k : ofSpaceOrDelete ≤ code = omega arith in rw (le-ltb code ofSpaceOrDelete k, le-ltb code ofAlike h)
 
 pub costs-by-spec : {M : Type 1} → statement M
 costs-by-spec =
@@ -36,7 +36,7 @@ costs-by-spec =
     (λ c κs. search needs)
     (λ c κs. search needs)
     (λ c κs. search needs)
-    (λ c. let h = of-blank (c .before .before .before .before .before .before .args .code) (omega arith) (omega arith) in cc (h G0, h G1, h G2, h G3))
+    (λ c. let h = of-space-or-delete (c .before .before .before .before .before .before .args .code) (omega arith) (omega arith) in cc (h G0, h G1, h G2, h G3))
     (λ c. search needs)
     (λ c. search needs)
     (λ c. search needs)

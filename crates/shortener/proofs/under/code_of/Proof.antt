@@ -33,6 +33,6 @@ code-of-spec =
     (λ c.
     let args = c .before .before .before .args in
     character (now (args .state)) (args .effect) (args .piece) _ (c .before .match .keys1) (c .code-of-character .ensures))
-    (λ c. simp (c .before .match .keys2, c .code-of-blank .ensures))
-    (λ c. simp (c .before .match .keys3, c .code-of-blank2 .ensures))
+    (λ c. simp (c .before .match .keys2, c .code-of-space-or-delete .ensures))
+    (λ c. simp (c .before .match .keys3, c .code-of-space-or-delete2 .ensures))
     (λ c. search (tests, c .code-alike-of .ensures)))

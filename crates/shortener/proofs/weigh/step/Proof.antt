@@ -11,7 +11,7 @@ returns c =
     let read = c .before .before .before .before .before .before .before .before .before in
     let start = read .before .before .before .before in
     let opening = c .before .before .over-opening .ensures in
-    opening-goes (start .pre .1) (start .pre .0 .0) (read .read-item .result) (read .read-item .ensures .0) _ _ _ (search needs)
+    opening-goes (start .pre .1) (start .pre .0 .0) (read .next-item .result) (read .next-item .ensures .0) _ _ _ (search needs)
     (c .before .before .before .before .starting .ensures) (opening .0) (opening .1)
 
 returns-2 : tie.Need-returns-2
@@ -21,7 +21,7 @@ returns-2 c =
     let unit = code .before .before in
     let read = unit .before .before .before .before .before .before in
     let start = read .before .before .before .before in
-    answer-goes (start .pre .1) (start .pre .0 .0) (read .read-item .result) (read .read-item .ensures .0) _ _ _ (code .code-of .result)
+    answer-goes (start .pre .1) (start .pre .0 .0) (read .next-item .result) (read .next-item .ensures .0) _ _ _ (code .code-of .result)
     (unit .before .before .if1 .left) (sym (unit .before .is-unit .ensures) ∙ unit .if2 .taken) (code .code-of .ensures)
     (c .before .before .before .before .change .ensures) (answer .0) (answer .1)
 
@@ -30,7 +30,7 @@ returns-3 c =
     let shift = c .before .before .before in
     let read = shift .before .before .before .before .before .before in
     let start = read .before .before .before .before in
-    shift-goes (start .pre .1) (start .pre .0 .0) (read .read-item .result) (read .read-item .ensures .0) _ _ _ (search needs)
+    shift-goes (start .pre .1) (start .pre .0 .0) (read .next-item .result) (read .next-item .ensures .0) _ _ _ (search needs)
     (sym (shift .before .is-unit .ensures) ∙ shift .if2 .left) (c .before .change2 .ensures) refl refl
 
 code-of-requires : tie.Need-code-of-requires
@@ -38,8 +38,8 @@ code-of-requires c κs =
     let unit = c .before in
     let read = unit .before .before .before .before .before .before in
     let start = read .before .before .before .before in
-    unit-fit (start .pre .1) (start .pre .0 .0) (read .read-item .result) (read .read-item .ensures .0) (search needs)
-    (sym (unit .before .is-unit .ensures) ∙ unit .if2 .taken) (read .read-item .ensures .1)
+    unit-fit (start .pre .1) (start .pre .0 .0) (read .next-item .result) (read .next-item .ensures .0) (search needs)
+    (sym (unit .before .is-unit .ensures) ∙ unit .if2 .taken) (read .next-item .ensures .1)
 
 over-opening-requires : tie.Need-over-opening-requires
 over-opening-requires c κs =
