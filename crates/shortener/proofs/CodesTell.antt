@@ -129,22 +129,22 @@ module _ (kinds : Element → Kind) where
   bit-of-element G2 = omega (arith, bit-bound (kinds G0), bit-bound (kinds G1), bit-bound (kinds G2), bit-bound (kinds G3))
   bit-of-element G3 = omega (arith, bit-bound (kinds G0), bit-bound (kinds G1), bit-bound (kinds G2), bit-bound (kinds G3))
 
-  space-or-delete-bounds : (ofSpaceOrDelete ≤ spaceOrDeleteCode kinds) × (spaceOrDeleteCode kinds < ofAlike)
-  space-or-delete-bounds = (
-    omega arith,
-    omega (arith, bit-bound (kinds G0), bit-bound (kinds G1), bit-bound (kinds G2), bit-bound (kinds G3)),
-  )
+  below-alike : spaceOrDeleteCode kinds < ofAlike
+  below-alike = omega (arith, bit-bound (kinds G0), bit-bound (kinds G1), bit-bound (kinds G2), bit-bound (kinds G3))
+
+  no-character : ltb (spaceOrDeleteCode kinds) ofSpaceOrDelete ≡ false
+  no-character = le-ltb (spaceOrDeleteCode kinds) ofSpaceOrDelete (omega arith)
+
+  not-alike : ltb (spaceOrDeleteCode kinds) ofAlike ≡ true
+  not-alike = lt-ltb (spaceOrDeleteCode kinds) ofAlike below-alike
 
   space-or-delete-costs : (e : Element) → costBy (spaceOrDeleteCode kinds) e ≡ (isOf94 (kinds e) gives 1 or far)
   unfolding costBy
-  space-or-delete-costs e =
-      rw (le-ltb (spaceOrDeleteCode kinds) ofSpaceOrDelete (space-or-delete-bounds .0), lt-ltb (spaceOrDeleteCode kinds) ofAlike (space-or-delete-bounds .1), bit-of-element e)
-      (space-or-delete-cost-is (kinds e))
+  space-or-delete-costs e = rw (no-character, not-alike, bit-of-element e) (space-or-delete-cost-is (kinds e))
 
   space-or-delete-place : (shown : ℕ) → placeBy (spaceOrDeleteCode kinds) shown ≡ last
   unfolding placeBy
-  space-or-delete-place shown =
-      rw (le-ltb (spaceOrDeleteCode kinds) ofSpaceOrDelete (space-or-delete-bounds .0), lt-ltb (spaceOrDeleteCode kinds) ofAlike (space-or-delete-bounds .1))
+  space-or-delete-place shown = rw (no-character, not-alike)
 
 -- all else is written alike, in four bytes at the most
 cost-alike : (a : Answer) → length (bytesOfAnswer Form.Seven a) ≤ 4 → (e : Element) →
@@ -313,8 +313,8 @@ below-opening n h = ne-eqb n ofOpening (λ e. omega arith)
 pub no-opening : (t : Sets) (a : Answer) → eqb (codeOf t a) ofOpening ≡ false
 no-opening t Answer.NothingYet = alike-answer Answer.NothingYet (omega arith)
 no-opening t (Answer.Char own x p) = below-opening (16 * indexOf own + bytesSoFar p) (omega (arith, character-low own p))
-no-opening t Answer.Space = below-opening (spaceOrDeleteCode (λ e. setIn t e .kind)) (space-or-delete-bounds (λ e. setIn t e .kind) .1)
-no-opening t Answer.Delete = below-opening (spaceOrDeleteCode (λ e. setIn t e .kind)) (space-or-delete-bounds (λ e. setIn t e .kind) .1)
+no-opening t Answer.Space = below-opening (spaceOrDeleteCode (λ e. setIn t e .kind)) (below-alike (λ e. setIn t e .kind))
+no-opening t Answer.Delete = below-opening (spaceOrDeleteCode (λ e. setIn t e .kind)) (below-alike (λ e. setIn t e .kind))
 no-opening t (Answer.Control w f n) = alike-answer (Answer.Control w f n) (short-at-home (Answer.Control w f n))
 no-opening t (Answer.DesignateControls w f) = alike-answer (Answer.DesignateControls w f) (short-at-home (Answer.DesignateControls w f))
 no-opening t (Answer.Designate e x) = alike-answer (Answer.Designate e x) (short-at-home (Answer.Designate e x))
