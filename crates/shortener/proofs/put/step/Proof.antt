@@ -38,7 +38,8 @@ returns-2 c =
     let read = unit .before .before .before .before .before .before .before .before in
     let start = read .before .before .before .before .before in
     answer-goes (start .pre .1) (start .pre .0 .0) (read .next-item .result) (read .next-item .ensures .0) _ _ _
-    (unit .before .before .before .before .if1 .left) (sym (unit .before .is-unit .ensures) ∙ unit .if2 .taken) (unit .before .before .change .ensures) (answer .0) (answer .1)
+    (unit .before .before .before .before .if1 .left) (sym (unit .before .is-unit .ensures) ∙ unit .if2 .taken)
+    (unit .before .before .change .ensures) (answer .0) (answer .1)
 
 returns-3 : tie.Need-returns-3
 returns-3 c =
