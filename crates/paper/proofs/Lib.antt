@@ -35,7 +35,7 @@ pub mod WrittenTurnByTurn
 pub mod OtherInAnyForm
 pub mod WhatCanBeWritten
 pub mod WhatIsReadCanBeWritten
-pub mod AcceptedTextsEndWhole
+pub mod TextsThatAreAccepted
 pub mod WrittenBytes
 pub mod WrittenDesignations
 pub mod ReadingOn

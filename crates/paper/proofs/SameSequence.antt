@@ -17,7 +17,7 @@ use Rattle.paper.specs.Surveying.{firstRefusal, firstOf}
 use Rattle.paper.specs.WrittenForms.{Entry, sequenceOf, writerAtStart, written}
 use Rattle.paper.specs.Conversions.{refusalAtEnd, Accepted, output, intoRoom, conversion, refusalIn}
 use Rattle.paper.proofs.Choices.{impossible, gives-has}
-use Rattle.paper.proofs.AcceptedTextsEndWhole.{refuses-nothing}
+use Rattle.paper.proofs.TextsThatAreAccepted.{refuses-nothing}
 use Rattle.paper.proofs.WhatCanBeWritten.{entriesOf}
 use Rattle.paper.proofs.WhatIsReadCanBeWritten.{can-be-written}
 use Rattle.paper.proofs.ReadingOn.{ReadsAs}

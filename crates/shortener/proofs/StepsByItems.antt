@@ -34,7 +34,7 @@ use Rattle.paper.proofs.WhatCanBeWritten.{Steps, ended, said, opened, entriesOf
 use Rattle.paper.proofs.WhatIsReadCanBeWritten.{rest-can-be-written}
 use Rattle.paper.proofs.WrittenTurnByTurn.{later-refuse-nothing, sets-by-the-answer}
 use Rattle.paper.proofs.WrittenAnswersReadBack.{keeps-g0}
-use Rattle.paper.proofs.AcceptedTextsEndWhole.{refuses-nothing, accepted-ends-whole}
+use Rattle.paper.proofs.TextsThatAreAccepted.{refuses-nothing, accepted-ends-whole}
 use Rattle.items.specs.States.{changed, startingCells, Single}
 use Rattle.items.specs.States as states
 use Rattle.items.specs.Items.{Item, openingWord, itemAt}

@@ -13,7 +13,7 @@ use Rattle.paper.specs.declared.Element.the-variants.{G0}
 use Rattle.paper.proofs.WhatCanBeWritten.{Steps, ended, said, opened, entriesOf, InSteps}
 use Rattle.paper.proofs.WhatIsReadCanBeWritten.{can-be-written}
 use Rattle.paper.proofs.ReadingOn.{ReadsAs}
-use Rattle.paper.proofs.AcceptedTextsEndWhole.{refuses-nothing}
+use Rattle.paper.proofs.TextsThatAreAccepted.{refuses-nothing}
 use Rattle.paper.proofs.SameSequence.{accepted-where, same-sequence}
 use Rattle.paper.proofs.OutputWithin.{output-within}
 use Rattle.shortest.specs.ByteOrder.{NotAfter}
