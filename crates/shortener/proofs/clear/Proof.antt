@@ -22,7 +22,7 @@ loop-again c =
     let l = c .before .loop in
     let d : List ℕ = c .before .before .args .work .now in (
       omega arith,
-      length-set (l .work) (l .next) 0 ∙ l .inv .1,
+      length-set (l .work) (l .next) _ ∙ l .inv .1,
       ap (λ (w : List ℕ). set w (l .next) 0) (l .inv .2) ∙ fill-more (l .next) 0 d (omega arith),
     )
 
