@@ -3,6 +3,8 @@
 // standard output has a line with the form and the length; a line for every byte's answer, also for nothing yet and skipped; the
 // end; the survey on a line; the listing, in pieces of up to 64 bytes, each after a line with its length; and what a buffer of
 // eight bytes takes of it.
+#![tactic(auto)]
+
 use libc::{STDIN_FILENO, STDOUT_FILENO};
 use paper::{Answer, Converted, EndWord, Figures, FirstRefusal, Form, Listed, Reader, Surveyed};
 
@@ -19,7 +21,7 @@ const FEW: usize = 8;
 const TEXTS: usize = 100000;
 
 // What is left to list: from an offset on with the reader that stands there, or nothing.
-#[derive(Drop)]
+#[derive(Clone, Copy)]
 enum Left {
     From(usize, Reader),
     Nothing,

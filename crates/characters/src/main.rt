@@ -5,6 +5,8 @@
 // A line of the first part is the set's kind, its number of bytes, its Final Byte, the column, the row and the number; of
 // the second the number, then the same. Final Bytes and numbers are in hex. A line after each part counts what was asked,
 // so that nothing is left out unseen.
+#![tactic(auto)]
+
 use paper::{Column, Count, Kind, Located, Numbered, Row, Set};
 use std::num::wrapping_add_u32;
 
@@ -36,7 +38,7 @@ fn print_position(column: Column, row: Row) {
 }
 
 fn there(set: Set, count: Count, column: Column, row: Row) {
-    match unicode::unicode_of(set, count, column, row) {
+    match unicode_numbers::unicode_of(set, count, column, row) {
         Numbered::Number(number) => {
             print_set(set);
             print_position(column, row);
@@ -92,7 +94,7 @@ fn sizes(kind: Kind) -> u32 {
 }
 
 fn back(number: u32) {
-    match unicode::locate(number) {
+    match unicode_numbers::locate(number) {
         Located::At(set, position) => {
             io::print_hex(1, number as u64, 4);
             io::write_all(1, b" ");

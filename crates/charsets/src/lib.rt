@@ -1,5 +1,7 @@
 // Sets and elements: the sets that a text starts with, what an element has, designating into an element, and what a position
 // byte is to a set.
+#![tactic(auto)]
+
 ghost use Rattle.std.specs.Prelude.{◌≡◌};
 ghost use Rattle.paper.specs.Sets.{size_of, bytes_of, position_byte, set_byte, set_in, controls_in, designated};
 ghost use Rattle.paper.specs.Sets.{designated_controls};
@@ -90,7 +92,7 @@ pub fn bytes_of(count: Count) -> u8
 }
 
 // The size of a set, kind and count, in one number: twice the bytes to a character after the first, and one more for 96 type.
-#[derive(Drop)]
+#[derive(Clone, Copy)]
 pub struct Size(pub u8);
 
 pub const OF_94: u8 = 0;
@@ -101,6 +103,7 @@ pub const TWO_BYTES: u8 = 2;
 
 pub const THREE_BYTES: u8 = 4;
 
+#[tactic(auto, using(paper::proofs::Tests::tests), unfolding(crate::specs::Sizes::kind_of))]
 pub fn kind_of(size: Size) -> Kind
     ensures { result ≡ kind_of size.0 }
 {
@@ -111,6 +114,7 @@ pub fn kind_of(size: Size) -> Kind
     }
 }
 
+#[tactic(auto, using(paper::proofs::Tests::tests), unfolding(crate::specs::Sizes::count_of))]
 pub fn count_of(size: Size) -> Count
     ensures { result ≡ count_of size.0 }
 {
@@ -124,6 +128,7 @@ pub fn count_of(size: Size) -> Count
 }
 
 // Whether there is one byte to a character.
+#[tactic(auto, unfolding(crate::specs::Sizes::is_one))]
 pub fn is_one(size: Size) -> bool
     ensures { result ≡ is_one size.0 }
 {
@@ -141,6 +146,7 @@ pub fn is_of_94(kind: Kind) -> bool
 }
 
 // What a byte of columns 2 to 7 is to a set of a kind.
+#[tactic(auto, using(paper::proofs::Tests::tests))]
 fn position_byte(kind: Kind, byte: u8) -> SetByte
     ensures { result ≡ position_byte kind byte }
 {
@@ -159,6 +165,7 @@ fn position_byte(kind: Kind, byte: u8) -> SetByte
 }
 
 // What a byte, taken as a position byte, is to a set of a kind.
+#[tactic(auto, unfolding(paper::specs::Sets::set_byte))]
 pub fn set_byte(kind: Kind, byte: u8) -> SetByte
     ensures { result ≡ set_byte kind byte }
 {
@@ -170,6 +177,7 @@ pub fn set_byte(kind: Kind, byte: u8) -> SetByte
 }
 
 // The same of a byte of GL. 2/1 to 7/14 are positions of every set and most of a text, so they are tried first.
+#[tactic(auto, unfolding(paper::specs::Characters::byte_in))]
 fn byte_in_gl(kind: Kind, byte: u8) -> SetByte
     ensures { result ≡ byte_in GraphicArea.GL kind byte }
 {
@@ -182,6 +190,7 @@ fn byte_in_gl(kind: Kind, byte: u8) -> SetByte
 }
 
 // What a byte is to a set of a kind whose characters come from an area.
+#[tactic(auto, using(paper::proofs::Tests::tests), unfolding(paper::specs::Characters::byte_in))]
 pub fn byte_in(area: GraphicArea, kind: Kind, byte: u8) -> SetByte
     ensures { result ≡ byte_in area kind byte }
 {

@@ -1,4 +1,6 @@
 // The code table: a byte is made from a column and a row here and nowhere else, and taken apart into both here.
+#![tactic(auto)]
+
 ghost use Rattle.std.specs.Prelude.{◌≡◌};
 ghost use Rattle.paper.specs.Choice.{between};
 ghost use Rattle.paper.specs.CodeTable.{byte_at, position_of, column_area, area_of, form_has_column, form_has};
@@ -26,6 +28,7 @@ pub const SI: u8 = 0x0F;
 pub const ESC: u8 = 0x1B;
 
 // The byte that a column and a row make.
+#[tactic(auto, using(paper::proofs::Tests::tests), unfolding(paper::specs::CodeTable::byte_at))]
 pub fn byte_at(column: Column, row: Row) -> Made
     ensures { result ≡ byte_at column row }
 {
@@ -43,6 +46,7 @@ pub fn byte_at(column: Column, row: Row) -> Made
 }
 
 // The column and the row of a byte.
+#[tactic(auto, unfolding(paper::specs::CodeTable::position_of))]
 pub fn position_of(byte: u8) -> Position
     ensures { result ≡ position_of byte }
 {
@@ -54,6 +58,7 @@ pub fn position_of(byte: u8) -> Position
     }
 }
 
+#[tactic(auto, using(paper::proofs::Tests::tests), unfolding(paper::specs::CodeTable::column_area))]
 fn column_area(column: Column) -> Area
     ensures { result ≡ column_area column }
 {
@@ -79,6 +84,7 @@ pub fn area_of(byte: u8) -> Area
     column_area(column)
 }
 
+#[tactic(auto, unfolding(paper::specs::CodeTable::form_has_column))]
 fn form_has_column(form: Form, column: Column) -> bool
     ensures { result ≡ form_has_column form column }
 {
@@ -99,6 +105,7 @@ pub fn form_has(form: Form, byte: u8) -> bool
 
 // Whether a byte stands from the first to the last, both counted. Both tests are made in any case, so that a compiler can do it for
 // sixteen bytes at once.
+#[tactic(auto, unfolding(paper::specs::Choice::between))]
 pub fn between(first: u8, last: u8, byte: u8) -> bool
     ensures { result ≡ between first last byte }
 {

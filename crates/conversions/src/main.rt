@@ -3,6 +3,8 @@
 // bytes for the buffer's length and three for the text's, the highest first; and the text. For each, standard output has a
 // line with the length of the output or with the refusal, and a line with all bytes of the lent buffer after the call, so that
 // those which must stay are seen as well. A case that is too long for this program, or that the input ends inside, ends the run.
+#![tactic(auto)]
+
 use libc::{STDIN_FILENO, STDOUT_FILENO};
 use paper::{Converted, Form};
 
@@ -20,7 +22,7 @@ const SHOWN: usize = 4096;
 const PIECE: usize = 3 * SHOWN;
 
 // What a case has before its text.
-#[derive(Drop)]
+#[derive(Clone, Copy)]
 struct Case {
     form: Form,
     fill: u8,
@@ -28,7 +30,7 @@ struct Case {
     length: usize,
 }
 
-#[derive(Drop)]
+#[derive(Clone, Copy)]
 enum Asked {
     One(Case),
     Missing,

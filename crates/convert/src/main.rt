@@ -1,5 +1,7 @@
 // Converts the text on standard input: with the argument 7 from 8-bit to 7-bit form, with 8 from 7-bit to 8-bit form. Standard
 // output has the converted bytes and nothing else; a refusal, and arguments that are no form, are said on standard error.
+#![tactic(auto)]
+
 use libc::{STDERR_FILENO, STDIN_FILENO, STDOUT_FILENO};
 use paper::{Converted, Form, Refusal};
 use refusals::LONGEST_TEXT;
@@ -11,7 +13,7 @@ const ROOM: usize = LONGEST_TEXT + 1;
 // output is longer.
 const LONGEST_OUTPUT: usize = 3 * LONGEST_TEXT;
 
-#[derive(Drop)]
+#[derive(Clone, Copy)]
 enum Chosen {
     Writing(Form),
     Unknown,

@@ -1,5 +1,7 @@
 // The two conversions over lent buffers. Each reads its text twice, by one loop that both share: first into no room, for the first
 // refusal or the length of the output; then, where the output fits, into the buffer.
+#![tactic(auto)]
+
 mod put;
 mod run;
 mod stretch;

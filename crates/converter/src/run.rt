@@ -18,7 +18,7 @@ use lane::{BLOCK, FIRST_OF_NONE, LAST_OF_NONE, Lane, block_ahead, byte_ahead, wo
 use paper::{Form, Kind};
 
 // What passes, and the bounds of the bytes that are written with bit 8 changed.
-#[derive(Drop)]
+#[derive(Clone, Copy)]
 struct Way {
     lane: Lane,
     first: u8,
@@ -177,7 +177,7 @@ fn copy_blocks(way: Way, text: &[u8], place: usize, buffer: &mut [u8], at: usize
 }
 
 // Where a run ends, in the text and in the output.
-#[derive(Drop)]
+#[derive(Clone, Copy)]
 pub(crate) struct Run {
     pub(crate) place: usize,
     pub(crate) at: usize,

@@ -22,7 +22,7 @@ use paper::{Converted, Form, Refusal};
 use refusals::refusal_of;
 
 // How a stretch ends: with an opening, by the place after it and the output's length before it; or with the text's answer.
-#[derive(Drop)]
+#[derive(Clone, Copy)]
 pub(crate) enum Ending {
     Opens { next: usize, before: usize },
     Over(Converted),

@@ -30,7 +30,7 @@ const SS3: u8 = BIT_8 + SINGLE_SHIFT_THREE;
 const BIT_8_IN_A_NUMBER: u64 = BIT_8 as u64;
 
 // A piece, and what GL shows in the output after it.
-#[derive(Drop)]
+#[derive(Clone, Copy)]
 pub(crate) struct Written {
     pub(crate) piece: Piece,
     pub(crate) shown: ElementNumber,

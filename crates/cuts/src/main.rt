@@ -5,6 +5,8 @@
 // between, and whether the second text is answered the same, or where it differs; and, if something stands between, the answer to
 // the last byte of it, also nothing yet and skipped. What stands between comes from the input: the program does not know the
 // opening, so that a broken one can be tried. A triple that the input ends inside is left out.
+#![tactic(auto)]
+
 ghost use Rattle.std.specs.Prelude.{◌≡◌, true};
 
 use libc::{STDIN_FILENO, STDOUT_FILENO};
@@ -28,14 +30,14 @@ const SKIPPED: u8 = 1;
 const IN_A_LINE: u8 = 2;
 
 // A text of this length stands at the start of its buffer, or the input ended before the text did.
-#[derive(Drop)]
+#[derive(Clone, Copy)]
 enum Text {
     Length(usize),
     Missing,
 }
 
 // The answers to the second text, held against those of a reader just started.
-#[derive(Drop)]
+#[derive(Clone, Copy)]
 enum Comparison {
     Same,
     DiffersAt(usize),

@@ -7,7 +7,7 @@ ghost use Rattle.escapes.specs.Effects.{effect, plain, shows_in_gl, shows_in_gr,
 use charsets::Size;
 
 // A place in the paper's list of the answer words.
-#[derive(Drop)]
+#[derive(Clone, Copy)]
 pub struct Word(pub u8);
 
 pub const CHAR_WORD: u8 = 1;
@@ -32,7 +32,7 @@ pub const INSTEP_WORD: u8 = 10;
 pub const WORDS: usize = 11;
 
 // The paper's number of an element.
-#[derive(Drop)]
+#[derive(Clone, Copy)]
 pub struct ElementNumber(pub u8);
 
 pub(crate) const C0: u8 = 0;
@@ -49,7 +49,7 @@ pub const G3: u8 = 5;
 
 // A cell of the state: those of the elements by their numbers, then what GL and GR show, the element that a single shift takes, and one
 // that nothing reads.
-#[derive(Drop)]
+#[derive(Clone, Copy)]
 pub struct Cell(pub u8);
 
 pub const GL: u8 = 6;
@@ -60,7 +60,7 @@ pub const SINGLE: u8 = 8;
 
 const NOWHERE: u8 = 9;
 
-#[derive(Drop)]
+#[derive(Clone, Copy)]
 pub struct Effect {
     pub word: Word,
     pub cell: Cell,

@@ -1,4 +1,6 @@
 // What an escape sequence means: the paper's table, a row to a line, as what the sequence does. Its meaning is made from that.
+#![tactic(auto)]
+
 pub mod effect;
 
 ghost use Rattle.std.specs.Prelude.{◌≤◌, ◌≡◌};
@@ -97,6 +99,7 @@ pub const FIRST_SHORT: u8 = 0x40;
 pub const LAST_SHORT: u8 = 0x42;
 
 // What a byte is inside a sequence: the sequence goes on with it, ends with it, or the byte may not stand there.
+#[tactic(auto, unfolding(paper::specs::Sequences::sequence_byte))]
 pub fn sequence_byte(byte: u8) -> SequenceByte
     ensures { result ≡ sequence_byte byte }
 {
@@ -122,6 +125,7 @@ fn other() -> Effect
 }
 
 // What a C1 function does, by its number.
+#[tactic(auto, using(paper::proofs::Tests::tests), unfolding(paper::specs::Sequences::c1_function))]
 pub fn effect_of_function(number: u8) -> Effect
     ensures { result ≡ effect_of (c1_function number) }
 {
@@ -149,6 +153,7 @@ fn right_shift(form: Form, element: ElementNumber) -> Effect
 }
 
 // ESC F, F 6/0 to 7/14: what is no shift is other.
+#[tactic(auto, using(paper::proofs::Tests::tests), unfolding(paper::specs::Sequences::shift_or_other))]
 fn shift_or_other(form: Form, last: u8) -> Effect
     ensures { result ≡ effect_of (shift_or_other form last) }
 {
@@ -163,6 +168,7 @@ fn shift_or_other(form: Form, last: u8) -> Effect
 }
 
 // ESC F
+#[tactic(auto, unfolding(paper::specs::Sequences::meaning_of_none))]
 pub fn effect_of_none(form: Form, last: u8) -> Effect
     ensures { result ≡ effect_of (meaning_of_none form last) }
 {
@@ -179,6 +185,7 @@ pub fn effect_of_none(form: Form, last: u8) -> Effect
 }
 
 // The seven intermediates that designate a graphic set, of so many bytes to a character.
+#[tactic(auto, using(paper::proofs::Tests::tests), unfolding(paper::specs::Sequences::designation))]
 fn designate_by(intermediate: u8, bytes: u8) -> Effect
     requires { bytes ≤ count_number Count.Three }
     ensures { (n : Count) → bytes ≡ count_number n → result ≡ effect_of (designation intermediate n) }
@@ -196,6 +203,7 @@ fn designate_by(intermediate: u8, bytes: u8) -> Effect
 }
 
 // ESC 2/4 F
+#[tactic(auto, unfolding(paper::specs::Sequences::short_designation))]
 fn short_designation(last: u8) -> Effect
     ensures { result ≡ effect_of (short_designation last) }
 {
@@ -207,6 +215,7 @@ fn short_designation(last: u8) -> Effect
 }
 
 // ESC I F, F any final
+#[tactic(auto, using(paper::proofs::Tests::tests), unfolding(paper::specs::Sequences::by_intermediate))]
 fn by_intermediate(first: u8, last: u8) -> Effect
     ensures { result ≡ effect_of (by_intermediate first last) }
 {
@@ -221,6 +230,7 @@ fn by_intermediate(first: u8, last: u8) -> Effect
     }
 }
 
+#[tactic(auto, unfolding(paper::specs::Sequences::meaning_of_one))]
 pub fn effect_of_one(first: u8, last: u8) -> Effect
     ensures { result ≡ effect_of (meaning_of_one first last) }
 {
@@ -232,6 +242,7 @@ pub fn effect_of_one(first: u8, last: u8) -> Effect
 }
 
 // One of the seven, F: how many bytes there are to a character goes by F.
+#[tactic(auto, unfolding(paper::specs::Sequences::several_bytes))]
 fn several_bytes(second: u8, last: u8) -> Effect
     ensures { result ≡ effect_of (several_bytes second last) }
 {
@@ -245,6 +256,7 @@ fn several_bytes(second: u8, last: u8) -> Effect
 }
 
 // ESC I I F
+#[tactic(auto, using(paper::proofs::Tests::tests), unfolding(paper::specs::Sequences::meaning_of_two))]
 pub fn effect_of_two(first: u8, second: u8, last: u8) -> Effect
     ensures { result ≡ effect_of (meaning_of_two first second last) }
 {
@@ -256,6 +268,7 @@ pub fn effect_of_two(first: u8, second: u8, last: u8) -> Effect
 }
 
 // A shift from the cell and the element.
+#[tactic(auto, using(paper::proofs::Tests::tests), unfolding(crate::specs::Effects::shift_by))]
 fn shift_by(cell: u8, element: u8) -> Shift
     ensures { result ≡ shift_by cell element }
 {
@@ -279,6 +292,7 @@ fn shift_by(cell: u8, element: u8) -> Shift
 }
 
 // A designation from the cell and the size.
+#[tactic(auto, using(paper::proofs::Tests::tests), unfolding(crate::specs::Effects::designation_by))]
 fn designation_by(cell: u8, value: u8) -> Meaning
     ensures { result ≡ designation_by cell value }
 {
@@ -295,6 +309,7 @@ fn designation_by(cell: u8, value: u8) -> Meaning
 }
 
 // The meaning that has an effect.
+#[tactic(auto, using(paper::proofs::Tests::tests), unfolding(crate::specs::Effects::meaning_by))]
 fn meaning_by(effect: Effect) -> Meaning
     ensures { result ≡ meaning_by effect }
 {

@@ -1,5 +1,7 @@
 // What a text has: its figures, in one pass over a lent text, stretch by stretch. Between two stretches stands an opening, or a refusal
 // and the search for one.
+#![tactic(auto)]
+
 mod run;
 mod stretch;
 

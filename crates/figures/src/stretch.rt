@@ -15,7 +15,7 @@ use lane::word_ahead;
 use paper::{EndWord, Form};
 
 // How a stretch ends: with an opening, by the place after it; with a refusal, by its number and its place; or with the text.
-#[derive(Drop)]
+#[derive(Clone, Copy)]
 pub(crate) enum Ending {
     Opens { next: usize },
     Stops { number: u8, there: usize },

@@ -30,6 +30,7 @@ fn refusal_of_byte(is: SetByte) -> u8
 }
 
 // The same of the byte at a place.
+#[tactic(auto, unfolding(crate::specs::Items::later_at))]
 fn later_byte(form: Form, area: GraphicArea, kind: Kind, text: &[u8], place: usize) -> u8
     ensures { result ≡ later_at form area kind text.now place }
 {
@@ -134,6 +135,7 @@ fn whole_character(
 }
 
 // The area that a character's bytes come from: after a single shift GL alone.
+#[tactic(auto, using(paper::proofs::Tests::tests), unfolding(crate::specs::Items::graphic_area))]
 fn graphic_area(taken: ElementNumber, byte: u8) -> GraphicArea
     ensures { result ≡ graphic_area taken.0 byte }
 {
@@ -148,6 +150,7 @@ fn graphic_area(taken: ElementNumber, byte: u8) -> GraphicArea
 }
 
 // The element that a single shift takes, or that the area shows.
+#[tactic(auto, using(paper::proofs::Tests::tests), unfolding(crate::specs::Items::element_in))]
 fn element_in(state: &[u8; CELLS], taken: ElementNumber, byte: u8) -> ElementNumber
     ensures { result.0 ≡ element_in state.now taken.0 byte }
 {
@@ -159,6 +162,7 @@ fn element_in(state: &[u8; CELLS], taken: ElementNumber, byte: u8) -> ElementNum
 }
 
 // 2/0 and 7/15 under 94 type: on the ground in GL they are SPACE and DELETE, elsewhere they are refused.
+#[tactic(auto, unfolding(crate::specs::Items::not_of_set_at))]
 fn not_of_set(taken: ElementNumber, byte: u8, word: u8, place: usize, next: usize) -> Item
     ensures { (item_of result ≡ not_of_set_at taken.0 byte word place next) × Small result.piece }
 {

@@ -18,7 +18,7 @@ use refusals::BYTE_OF_EIGHT_BITS;
 // What it does, its bytes, and the place after it. Of a character the value is its element, and the bytes are its position bytes; a shift
 // and an opening have none; the bytes of all else are what it is written as in 8-bit form. Of a refusal the value is its number, and the
 // place its place.
-#[derive(Drop)]
+#[derive(Clone, Copy)]
 pub struct Item {
     pub effect: Effect,
     pub piece: Piece,
@@ -75,6 +75,7 @@ pub(crate) fn opening(place: usize) -> Item
 }
 
 // The item at a place of a text in a form, for what is known there. Letters are most of a text, so they are tried first.
+#[tactic(auto, unfolding(crate::specs::Items::item_at))]
 pub fn read_item(form: Form, state: &[u8; CELLS], text: &[u8], place: usize) -> Item
     ensures { (item_of result ≡ item_at form state.now text.now place) × Small result.piece }
 {

@@ -2,6 +2,8 @@
 // are two.
 // Who has the whole text need not stop at every byte, and keeps what an item can change and no more. The bytes of an item
 // are those of 8-bit form, but for an opening, which has none; `converter` writes it in the form that is asked for.
+#![tactic(auto)]
+
 mod character;
 pub mod item;
 pub mod letter;

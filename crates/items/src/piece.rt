@@ -15,18 +15,20 @@ pub const FIFTH: u64 = 0x100000000;
 // Below this a number has room for one place more.
 const ROOM: u64 = 0x100000000000000;
 
-#[derive(Drop)]
+#[derive(Clone, Copy)]
 pub struct Piece {
     pub count: usize,
     pub bytes: u64,
 }
 
+#[tactic(auto, unfolding(crate::specs::Pieces::bytes_in))]
 pub(crate) fn nothing() -> Piece
     ensures { (bytes_in result ≡ []) × (result.count ≡ 0) × (result.bytes ≡ 0) }
 {
     Piece { count: 0, bytes: 0 }
 }
 
+#[tactic(auto, unfolding(crate::specs::Pieces::bytes_in))]
 pub fn one(first: u8) -> Piece
     ensures { (result ≡ one_byte first) × (bytes_in result ≡ first ∷ []) × (result.count ≡ 1) × (result.bytes < 0x100) }
 {
@@ -37,6 +39,7 @@ pub fn one(first: u8) -> Piece
 }
 
 // A byte in front of a piece. What has no room is dropped; a piece that is written has room.
+#[tactic(auto, unfolding(crate::specs::Pieces::bytes_in))]
 pub fn in_front(byte: u8, piece: Piece) -> Piece
     ensures value { result ≡ front byte piece }
     ensures result_value { piece.count ≤ 6 →

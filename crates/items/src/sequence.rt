@@ -25,6 +25,7 @@ use refusals::{
 const FUNCTIONS: u8 = LAST_FUNCTION + 1;
 
 // A byte that is neither an intermediate nor a final: 1 before 2. Those are bytes of both forms, so 1 is not tested before them.
+#[tactic(auto, unfolding(crate::specs::Items::not_of_sequence))]
 fn not_of_sequence(form: Form, byte: u8, place: usize) -> Item
     ensures { (item_of result ≡ not_of_sequence form byte place) × Small result.piece }
 {
@@ -36,6 +37,7 @@ fn not_of_sequence(form: Form, byte: u8, place: usize) -> Item
 }
 
 // What is written in 8-bit form for what does this: of a shift nothing, of a C1 function its byte, else these bytes.
+#[tactic(auto, using(paper::proofs::Tests::tests), unfolding(crate::specs::Items::bytes_meant))]
 fn piece_meant(effect: Effect, piece: Piece) -> Piece
     requires { Small piece }
     ensures { (bytes_in result ≡ bytes_meant effect (bytes_in piece)) × Small result }
@@ -50,6 +52,7 @@ fn piece_meant(effect: Effect, piece: Piece) -> Piece
 }
 
 // A sequence or a C1 function that does this and has these bytes: the place of its last byte, and the next.
+#[tactic(auto, unfolding(crate::specs::Items::meant_at))]
 fn meant(effect: Effect, piece: Piece, place: usize, next: usize) -> Item
     requires { Small piece }
     ensures { (item_of result ≡ meant_at effect (bytes_in piece) place next) × Small result.piece }
@@ -67,6 +70,7 @@ fn meant(effect: Effect, piece: Piece, place: usize, next: usize) -> Item
 }
 
 // What is written for a set of several bytes: into G0 the short sequence where there is one.
+#[tactic(auto, unfolding(crate::specs::Items::several_bytes_of))]
 fn piece_of_several(second: u8, last: u8) -> Piece
     ensures { (bytes_in result ≡ several_bytes_of second last) × Small result }
 {
@@ -102,6 +106,7 @@ fn after_two(form: Form, first: u8, second: u8, text: &[u8], place: usize) -> It
 }
 
 // After ESC and an intermediate: the rest of an opening stands at a place.
+#[tactic(auto, using(paper::proofs::Tests::tests), unfolding(crate::specs::Items::is_opening))]
 fn is_opening(form: Form, first: u8, text: &[u8], place: usize) -> bool
     ensures { result ≡ is_opening form first text.now place }
 {
@@ -171,6 +176,7 @@ fn shift(element: ElementNumber, next: usize) -> Item
 }
 
 // A byte of C0 or C1 on the ground that is not ESC: its place, and the next.
+#[tactic(auto, unfolding(crate::specs::Items::control_at))]
 pub(crate) fn control(byte: u8, place: usize, next: usize) -> Item
     ensures { (item_of result ≡ control_at byte place next) × Small result.piece }
 {

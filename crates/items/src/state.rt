@@ -49,6 +49,7 @@ pub fn size_in(state: &[u8; CELLS], element: ElementNumber) -> Size
 }
 
 // The element that the area of a byte shows.
+#[tactic(auto, using(paper::proofs::Tests::tests), unfolding(crate::specs::States::element_of))]
 pub fn element_of(state: &[u8; CELLS], byte: u8) -> ElementNumber
     ensures { result.0 ≡ element_of state.now byte }
 {

@@ -1,5 +1,7 @@
 // The lane: runs of bytes that leave what is known of a text as it is, each a character, SPACE or a control. A byte passes that is at
 // most a last plain byte and neither SO, SI nor ESC, or that stands within bounds. Sixteen bytes are tried at once.
+#![tactic(auto)]
+
 ghost use Rattle.std.specs.Prelude.{◌+◌, ◌≤◌, ◌≡◌, false, true, length};
 ghost use Rattle.paper.specs.Choice.{◌gives◌or◌};
 ghost use Rattle.lane.specs.Passing.{is_quiet, passes, pass_all, byte_ahead, block_ahead};
@@ -21,7 +23,7 @@ pub const FIRST_OF_NONE: u8 = 1;
 pub const LAST_OF_NONE: u8 = 0;
 
 // The last plain byte, and the bounds of the bytes that pass beside the plain ones.
-#[derive(Drop)]
+#[derive(Clone, Copy)]
 pub struct Lane {
     pub plain: u8,
     pub first: u8,

@@ -1,5 +1,7 @@
 // Prints a line for each answer to the text on standard input, except nothing yet and skipped, and a last line for its end. The
 // text is in 8-bit form, with the argument 7 in 7-bit form.
+#![tactic(auto)]
+
 use libc::{STDERR_FILENO, STDIN_FILENO, STDOUT_FILENO};
 use paper::{Answer, Converted, Form, Listed, Reader, Refusal};
 use refusals::LONGEST_TEXT;
@@ -13,14 +15,14 @@ const PIECE: usize = 65536;
 // A line takes less.
 const LINE: usize = 64;
 
-#[derive(Drop)]
+#[derive(Clone, Copy)]
 enum Chosen {
     Reading(Form),
     Unknown,
 }
 
 // What is left to list: from an offset on with the reader that stands there, or nothing.
-#[derive(Drop)]
+#[derive(Clone, Copy)]
 enum Left {
     From(usize, Reader),
     Nothing,

@@ -1,5 +1,7 @@
 // The lister: the line of an answer, and the lines of a text into a lent buffer. A line is made in a place of its own, and
 // copied into the buffer only where the whole of it fits.
+#![tactic(auto)]
+
 mod fields;
 mod lines;
 mod making;

@@ -25,7 +25,7 @@ const TEN: usize = 10;
 const SIXTEEN: usize = 16;
 
 // A line in the making: its first bytes, as many as its length. What there is no room for is left out.
-#[derive(Drop)]
+#[derive(Clone, Copy)]
 pub(crate) struct Line {
     bytes: [u8; ROOM],
     length: usize,

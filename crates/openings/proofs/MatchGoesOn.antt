@@ -1,9 +1,9 @@
 -- How much of the opening stands at the end, one byte later, is found without looking back: computed at each place of the
 -- opening, with the byte left open; past its end the whole opening stands before the byte.
 use Prim.Native.Nat.{ℕ, zero, suc, ◌+◌, ◌<◌, ◌≤◌}
-use mathlib.Core.Path.{◌≡◌, refl}
+use mathlib.Core.Path.{◌≡◌, refl, ◌∙◌, ap, sym}
 use mathlib.Core.Bool.{Bool, true, false}
-use mathlib.Core.List.{[], ◌∷◌, ◌++◌}
+use mathlib.Core.List.{List, [], ◌∷◌, ◌++◌}
 use native.Mathlib.Omega.{arith}
 use borrow.Author.Tests.{ltb-true, ltb-false, ne_eqb}
 use lib.Dec.{ltb, eqb}
@@ -34,7 +34,7 @@ past_whole Eight b = refl
 
 past : (m : Form) (k b : ℕ) → length (opening m) ≤ k → begun b ≡ matched_with m k b
 unfolding matched_with
-past m k b h = rw (take_all k (opening m) h) (past_whole m b)
+past m k b h = past_whole m b ∙ ap (λ (l : List ℕ). longest (opening m) (l ++ (b ∷ [])) (length (opening m))) (sym (take_all k (opening m) h))
 
 -- before its first byte
 first_match : (m : Form) (b : ℕ) → begun b ≡ matched_with m 0 b

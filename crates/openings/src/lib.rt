@@ -1,5 +1,7 @@
 // The opening of each form: its bytes, how much of it has gone by with a byte more, whether it stands at a place of a text, and writing
 // it.
+#![tactic(auto)]
+
 ghost use Rattle.std.specs.Prelude.{◌+◌, ◌<◌, ◌≤◌, ◌≡◌, length, take, drop};
 ghost use Rattle.std.proofs.lemmas.List.Edits.{sets};
 ghost use Rattle.paper.specs.Starting.{opening_start, opening_end, opening};
@@ -39,6 +41,7 @@ pub fn opening_length(form: Form) -> u8
 }
 
 // The bytes that follow in each form, in which the forms differ.
+#[tactic(auto, using(paper::proofs::Tests::tests))]
 fn end_at(form: Form, place: u8) -> u8
     ensures { result ≡ end_at form place }
 {
@@ -65,6 +68,7 @@ fn opening_at(form: Form, place: u8) -> u8
 }
 
 // What of an opening the byte begins.
+#[tactic(auto, using(paper::proofs::Tests::tests), unfolding(crate::specs::NextMatch::begun))]
 fn begun(byte: u8) -> u8
     ensures { result ≡ begun byte }
 {
@@ -72,6 +76,7 @@ fn begun(byte: u8) -> u8
 }
 
 // After the opening's first byte its second may come; else the byte may begin it.
+#[tactic(auto, using(paper::proofs::Tests::tests), unfolding(crate::specs::NextMatch::begun_after))]
 fn begun_after(before: u8, byte: u8) -> u8
     ensures { result ≡ begun_after before byte }
 {
@@ -84,6 +89,7 @@ fn begun_after(before: u8, byte: u8) -> u8
     begun(byte)
 }
 
+#[tactic(auto, using(paper::proofs::Tests::tests), unfolding(crate::specs::NextMatch::begun_at))]
 fn begun_at(form: Form, matched: u8, byte: u8) -> u8
     requires { matched < length (opening form) }
     ensures { result ≡ begun_at form matched byte }
@@ -95,6 +101,7 @@ fn begun_at(form: Form, matched: u8, byte: u8) -> u8
 }
 
 // How much of the opening stands at the end, with one byte more.
+#[tactic(auto, using(paper::proofs::Tests::tests), unfolding(crate::specs::NextMatch::next_match))]
 pub fn matched_with(form: Form, matched: u8, byte: u8) -> u8
     ensures { result ≡ matched_with form matched byte }
 {

@@ -1,31 +1,32 @@
 // The types of the paper, in the order of its sections. What they mean is said by the definitions in specs/, and what is
 // promised of them by the theorems in proofs/; there is no code here but the types.
+#![tactic(auto)]
 
 // ---- Code table and elements
 
 // c/r is column c, row r. A column number is never taken where a row number is due: each is a type of its own.
-#[derive(Drop)]
+#[derive(Clone, Copy)]
 pub struct Column(pub u8);
 
-#[derive(Drop)]
+#[derive(Clone, Copy)]
 pub struct Row(pub u8);
 
 // A position of the code table.
-#[derive(Drop)]
+#[derive(Clone, Copy)]
 pub struct Position {
     pub column: Column,
     pub row: Row,
 }
 
 // What a column and a row make: their byte, or no such position.
-#[derive(Drop)]
+#[derive(Clone, Copy)]
 pub enum Made {
     Byte(u8),
     NoPosition,
 }
 
 // The four areas of the code table.
-#[derive(Drop)]
+#[derive(Clone, Copy)]
 pub enum Area {
     C0,
     GL,
@@ -34,20 +35,20 @@ pub enum Area {
 }
 
 // 7-bit form has columns 0 to 7 only.
-#[derive(Drop)]
+#[derive(Clone, Copy)]
 pub enum Form {
     Seven,
     Eight,
 }
 
 // The elements that hold control sets, and those that hold graphic sets.
-#[derive(Drop)]
+#[derive(Clone, Copy)]
 pub enum ControlElement {
     C0,
     C1,
 }
 
-#[derive(Drop)]
+#[derive(Clone, Copy)]
 pub enum Element {
     G0,
     G1,
@@ -56,14 +57,14 @@ pub enum Element {
 }
 
 // Of 94 or 96 type.
-#[derive(Drop)]
+#[derive(Clone, Copy)]
 pub enum Kind {
     Of94,
     Of96,
 }
 
 // How many bytes there are to a character.
-#[derive(Drop)]
+#[derive(Clone, Copy)]
 pub enum Count {
     One,
     Two,
@@ -71,7 +72,7 @@ pub enum Count {
 }
 
 // A graphic set: its size, which is kind and count, and its Final Byte F.
-#[derive(Drop)]
+#[derive(Clone, Copy)]
 pub struct Set {
     pub kind: Kind,
     pub count: Count,
@@ -79,7 +80,7 @@ pub struct Set {
 }
 
 // What each element holds. A control set has one size, so its Final Byte is all of it.
-#[derive(Drop)]
+#[derive(Clone, Copy)]
 pub struct Sets {
     pub c0: u8,
     pub c1: u8,
@@ -90,7 +91,7 @@ pub struct Sets {
 }
 
 // What a byte, taken as a position byte, is to a set: SPACE, DELETE, a position of the set, or outside.
-#[derive(Drop)]
+#[derive(Clone, Copy)]
 pub enum SetByte {
     OfSpace,
     OfDelete,
@@ -101,7 +102,7 @@ pub enum SetByte {
 // ---- Escape sequences
 
 // What a byte is inside a sequence.
-#[derive(Drop)]
+#[derive(Clone, Copy)]
 pub enum SequenceByte {
     Intermediate,
     Final,
@@ -109,7 +110,7 @@ pub enum SequenceByte {
 }
 
 // The intermediates seen since ESC, in their order.
-#[derive(Drop)]
+#[derive(Clone, Copy)]
 pub enum Intermediates {
     None,
     One(u8),
@@ -117,7 +118,7 @@ pub enum Intermediates {
 }
 
 // The shift functions by name.
-#[derive(Drop)]
+#[derive(Clone, Copy)]
 pub enum Shift {
     LS0,
     LS1,
@@ -131,7 +132,7 @@ pub enum Shift {
 }
 
 // What a sequence means.
-#[derive(Drop)]
+#[derive(Clone, Copy)]
 pub enum Meaning {
     // a sequence without meaning
     NoMeaning,
@@ -150,14 +151,14 @@ pub enum Meaning {
 // ---- Characters and shifts
 
 // The area that a character's bytes come from.
-#[derive(Drop)]
+#[derive(Clone, Copy)]
 pub enum GraphicArea {
     GL,
     GR,
 }
 
 // A character's 7-bit position bytes.
-#[derive(Drop)]
+#[derive(Clone, Copy)]
 pub enum PositionBytes {
     One(u8),
     Two(u8, u8),
@@ -165,7 +166,7 @@ pub enum PositionBytes {
 }
 
 // Where a reader stands that is in step.
-#[derive(Drop)]
+#[derive(Clone, Copy)]
 pub enum Within {
     Ground,
     Sequence(Intermediates),
@@ -174,14 +175,14 @@ pub enum Within {
 }
 
 // Where a reader stands. A lost reader knows how much of the opening has gone by and how many bytes were skipped.
-#[derive(Drop)]
+#[derive(Clone, Copy)]
 pub enum Standing {
     InStep(Within),
     Lost { matched: u8, skipped: u16 },
 }
 
 // While it is in step a reader records how much of the opening of its form has just gone by, as a number of bytes.
-#[derive(Drop)]
+#[derive(Clone, Copy)]
 pub struct Reader {
     pub form: Form,
     pub sets: Sets,
@@ -193,7 +194,7 @@ pub struct Reader {
 
 // ---- Refusal numbers
 
-#[derive(Drop)]
+#[derive(Clone, Copy)]
 pub enum Refusal {
     // 1: a byte of 128 or more in 7-bit form
     ByteOfEightBits,
@@ -225,7 +226,7 @@ pub enum Refusal {
 
 // ---- Answer to one byte
 
-#[derive(Drop)]
+#[derive(Clone, Copy)]
 pub enum Answer {
     NothingYet,
     Char(Element, Set, PositionBytes),
@@ -245,14 +246,14 @@ pub enum Answer {
 }
 
 // What one byte gives: its answer, and the reader for the next byte.
-#[derive(Drop)]
+#[derive(Clone, Copy)]
 pub struct Answered {
     pub answer: Answer,
     pub reader: Reader,
 }
 
 // At the end of a text.
-#[derive(Drop)]
+#[derive(Clone, Copy)]
 pub enum EndWord {
     Whole,
     Inside,
@@ -262,14 +263,14 @@ pub enum EndWord {
 // ---- What a text has
 
 // The first refusal of a text with its place, if there is one.
-#[derive(Drop)]
+#[derive(Clone, Copy)]
 pub enum FirstRefusal {
     Never,
     First(Refusal, usize),
 }
 
 // How many answers of each word a text has, the first refusal, and how the text ends.
-#[derive(Drop)]
+#[derive(Clone, Copy)]
 pub struct Figures {
     pub characters: usize,
     pub spaces: usize,
@@ -285,7 +286,7 @@ pub struct Figures {
 }
 
 // The figures of a text, or the refusal of one that is too long.
-#[derive(Drop)]
+#[derive(Clone, Copy)]
 pub enum Surveyed {
     Has(Figures),
     Refused(Refusal),
@@ -295,7 +296,7 @@ pub enum Surveyed {
 
 // What a call wrote of a text's lines: all that were left; so many bytes, with the place and the reader to go on with; or
 // nothing, with the refusal.
-#[derive(Drop)]
+#[derive(Clone, Copy)]
 pub enum Listed {
     Done(usize),
     More(usize, usize, Reader),
@@ -305,7 +306,7 @@ pub enum Listed {
 // ---- The two written forms
 
 // What a call that writes into a lent buffer answers, as a conversion: the length of its output, or a refusal with its place.
-#[derive(Drop)]
+#[derive(Clone, Copy)]
 pub enum Converted {
     Done(usize),
     Refused(Refusal, usize),
@@ -314,14 +315,14 @@ pub enum Converted {
 // ---- Latin/Greek
 
 // Lookup there.
-#[derive(Drop)]
+#[derive(Clone, Copy)]
 pub enum Numbered {
     Number(u32),
     NoNumber,
 }
 
 // Lookup back.
-#[derive(Drop)]
+#[derive(Clone, Copy)]
 pub enum Located {
     At(Set, Position),
     Nowhere,

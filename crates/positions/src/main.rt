@@ -1,6 +1,8 @@
 // Prints the code table and the sets as the library has them: every byte with its column, row and area, the forms that have
 // it and what it is to a set of each kind; every column and row that make a byte, asked of all numbers; and the sets at the
 // start and after a designation into each element. Bytes are in hex.
+#![tactic(auto)]
+
 use paper::{
     Area, Column, ControlElement, Count, Element, Form, Kind, Made, Row, Set, SetByte, Sets,
 };

@@ -34,6 +34,7 @@ fn with_byte(bytes: PositionBytes, byte: u8) -> PositionBytes
 }
 
 // A character that has come so far: complete with as many bytes as its set has to a character.
+#[tactic(auto, using(paper::proofs::Tests::tests), unfolding(paper::specs::Characters::character))]
 fn character(
     element: Element,
     set: Set,

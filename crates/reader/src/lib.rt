@@ -1,5 +1,7 @@
 // The reader: one byte in, one answer and the reader for the next byte out. Every reader value has its answer, also one that
 // no text leads to. Who reads a text begins and ends it here too: `start` and `end_word` are handed on.
+#![tactic(auto)]
+
 mod character;
 mod given;
 mod sequence;
@@ -41,6 +43,7 @@ pub fn read(reader: Reader, byte: u8) -> Answered
 }
 
 // What is recorded with a byte: how much of the opening has gone by, and nothing after a mark.
+#[tactic(auto, using(paper::proofs::Tests::tests))]
 fn record_with(form: Form, gone: u8, byte: u8) -> u8
     ensures { result ≡ unless_complete form (matched_with form gone byte) }
 {
@@ -73,6 +76,7 @@ fn recorded_in(gone: u8, answered: Answered) -> Answered
 }
 
 // A byte that the form does not have is refused before all others.
+#[tactic(auto, unfolding(paper::specs::Answering::answer_in_step))]
 fn answer_in_step(within: Within, byte: u8, reader: Reader) -> Answered
     ensures { result ≡ answer_in_step within byte reader }
 {
@@ -104,6 +108,7 @@ fn answer_within(within: Within, byte: u8, reader: Reader) -> Answered
 
 // By the byte's column: C0, GL, C1 or GR. The tests are those of `codetable::area_of`, made here so that no area is handed over
 // to be looked at again.
+#[tactic(auto, using(paper::proofs::Tests::tests), unfolding(paper::specs::CodeTable::column_area, paper::specs::CodeTable::position_of))]
 fn answer_on_ground(byte: u8, reader: Reader) -> Answered
     ensures { result ≡ ground_at (area_of byte) byte reader }
 {

@@ -14,6 +14,7 @@ use paper::{
 };
 
 // SI, SO and ESC keep their places in every C0 set.
+#[tactic(auto, using(paper::proofs::Tests::tests), unfolding(paper::specs::Characters::c0_byte))]
 pub(crate) fn c0_byte(byte: u8, reader: Reader) -> Answered
     ensures { result ≡ c0_byte byte reader }
 {
@@ -60,6 +61,7 @@ fn shift(shift: Shift, reader: Reader) -> Answered
 }
 
 // A designation takes effect at its final.
+#[tactic(auto, unfolding(paper::specs::Answering::means))]
 fn designate_controls(element: ControlElement, last: u8, reader: Reader) -> Answered
     ensures { result ≡ means (Meaning.DesignateControls element) Intermediates.None last reader }
 {
@@ -72,6 +74,7 @@ fn designate_controls(element: ControlElement, last: u8, reader: Reader) -> Answ
     }
 }
 
+#[tactic(auto, unfolding(paper::specs::Answering::means))]
 fn designate(element: Element, set: Set, reader: Reader) -> Answered
     ensures { result ≡ means (Meaning.Designate element set.kind set.count) Intermediates.None set.last reader }
 {
@@ -85,6 +88,7 @@ fn designate(element: Element, set: Set, reader: Reader) -> Answered
 }
 
 // What a function or a sequence of this meaning does.
+#[tactic(auto, unfolding(paper::specs::Answering::means))]
 fn mean(meaning: Meaning, intermediates: Intermediates, byte: u8, reader: Reader) -> Answered
     ensures { result ≡ means meaning intermediates byte reader }
 {
@@ -124,6 +128,7 @@ fn intermediate(intermediates: Intermediates, byte: u8, reader: Reader) -> Answe
 }
 
 // A byte inside a sequence.
+#[tactic(auto, unfolding(paper::specs::Sequences::sequence_byte))]
 pub(crate) fn next_byte(intermediates: Intermediates, byte: u8, reader: Reader) -> Answered
     ensures { result ≡ sequence_at (sequence_byte byte) intermediates byte reader }
 {

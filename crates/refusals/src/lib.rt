@@ -1,4 +1,6 @@
 // The refusals' numbers, and the bounds by which a text or a work buffer is refused.
+#![tactic(auto)]
+
 ghost use Rattle.std.specs.Prelude.{◌≡◌};
 ghost use Rattle.paper.specs.Refusals.{number_of};
 ghost use Rattle.refusals.specs.ByNumber.{refusal_of};
@@ -62,6 +64,7 @@ pub fn number_of(refusal: Refusal) -> usize
 }
 
 // The refusal that has a number; any other number gives the last.
+#[tactic(auto, using(paper::proofs::Tests::tests), unfolding(crate::specs::ByNumber::refusal_of))]
 pub fn refusal_of(number: u8) -> Refusal
     ensures { result ≡ refusal_of number }
 {

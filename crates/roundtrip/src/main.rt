@@ -1,6 +1,8 @@
 // Converts the text on standard input, in 8-bit form, to 7-bit form and back, and compares what comes back with the text; counts
 // its characters, and maps each to Unicode and back. With the argument numbers it prints instead a line for each character,
 // SPACE, DELETE and control of the text: its Unicode number.
+#![tactic(auto)]
+
 ghost use Rattle.std.specs.Prelude.{◌≡◌, true};
 
 use charsets::{DELETE, SPACE, bytes_of, size_of};
@@ -27,7 +29,7 @@ const LINES: usize = LINE * LONGEST_TEXT;
 // The C1 functions follow the 7-bit codes.
 const FIRST_C1: u32 = 0x80;
 
-#[derive(Drop)]
+#[derive(Clone, Copy)]
 enum Chosen {
     Comparing,
     Numbers,
@@ -35,7 +37,7 @@ enum Chosen {
 }
 
 // How many answers of each kind a text has, and how many characters are not found again by their number.
-#[derive(Drop)]
+#[derive(Clone, Copy)]
 struct Tally {
     mapped: usize,
     without_number: usize,
@@ -46,7 +48,7 @@ struct Tally {
 }
 
 // The line of an answer: a number, the word none, or no line.
-#[derive(Drop)]
+#[derive(Clone, Copy)]
 enum Line {
     Number(u32),
     Word,
@@ -92,7 +94,7 @@ fn number_at(set: Set, count: Count, byte: u8) -> Numbered {
     let position = position_of(byte);
     let column = position.column;
     let row = position.row;
-    unicode::unicode_of(set, count, column, row)
+    unicode_numbers::unicode_of(set, count, column, row)
 }
 
 fn number_of(set: Set, bytes: PositionBytes) -> Numbered {
@@ -123,7 +125,7 @@ fn same_positions(one: Position, other: Position) -> bool {
 
 // Whether a number leads back to the set and the position that it was found for.
 fn leads_back(number: u32, set: Set, byte: u8) -> bool {
-    match unicode::locate(number) {
+    match unicode_numbers::locate(number) {
         Located::At(found, position) => {
             same_sets(found, set) && same_positions(position, position_of(byte))
         }

@@ -1,4 +1,6 @@
 // The search of a lost reader for the opening of its form.
+#![tactic(auto)]
+
 ghost use Rattle.std.specs.Prelude.{◌≡◌};
 ghost use Rattle.paper.specs.Searching.{one_more};
 ghost use Rattle.paper.specs.Characters.{lost_with};
@@ -12,6 +14,7 @@ use standing::standing_at;
 // The number of bytes skipped is counted up to this.
 const MOST_SKIPPED: u16 = 65535;
 
+#[tactic(auto, using(paper::proofs::Tests::tests), unfolding(paper::specs::Searching::one_more))]
 fn one_more(skipped: u16) -> u16
     ensures { result ≡ one_more skipped }
 {
@@ -23,6 +26,7 @@ fn one_more(skipped: u16) -> u16
 }
 
 // So much of the opening has gone by, and so many bytes are skipped: the opening is complete, or the search goes on.
+#[tactic(auto, using(paper::proofs::Tests::tests))]
 fn answer_searching(matched: u8, skipped: u16, reader: Reader) -> Answered
     ensures { result ≡ answer_searching matched skipped reader }
 {
@@ -50,6 +54,7 @@ fn answer_searching(matched: u8, skipped: u16, reader: Reader) -> Answered
 }
 
 // A reader that is lost with this byte: the search begins with it.
+#[tactic(auto, unfolding(paper::specs::Searching::one_more))]
 pub fn lost_with(byte: u8, reader: Reader) -> Reader
     ensures { result ≡ lost_with byte reader }
 {
@@ -65,6 +70,7 @@ pub fn lost_with(byte: u8, reader: Reader) -> Reader
 }
 
 // A byte given to a lost reader.
+#[tactic(auto, unfolding(paper::specs::Answering::answer_lost))]
 pub fn answer_lost(matched: u8, skipped: u16, byte: u8, reader: Reader) -> Answered
     ensures { result ≡ answer_lost matched skipped byte reader }
 {
@@ -73,13 +79,14 @@ pub fn answer_lost(matched: u8, skipped: u16, byte: u8, reader: Reader) -> Answe
 }
 
 // Where the next opening ends, or that none comes.
-#[derive(Drop)]
+#[derive(Clone, Copy)]
 pub enum Opening {
     Ends(usize),
     Missing,
 }
 
 // The search of a reader that was refused at a place: the place after the opening.
+#[tactic(auto, using(paper::proofs::Tests::tests))]
 pub fn opening_after(form: Form, text: &[u8], place: usize) -> Opening
     ensures { result ≡ opening_after form text.now place }
 {

@@ -5,10 +5,12 @@
 // 5 designate, then the element (C0, C1, G0 to G3 are 0 to 5), 32, 94 or 96, and the bytes to a character; 6 shift, then its
 // place in the list LS0 to LS3, LS1R to LS3R, SS2, SS3; 7 other; 8 refused, then 4: no meaning. Each sequence stands on one
 // line, so a difference at any of them shows.
+#![tactic(auto)]
+
 use paper::{ControlElement, Element, Form, Intermediates, Meaning, SequenceByte, Shift};
 
 // A meaning in four numbers.
-#[derive(Drop)]
+#[derive(Clone, Copy)]
 struct Said {
     word: u8,
     first: u8,

@@ -1,5 +1,7 @@
 // Writes the shortest 7-bit text that reads as the text on standard input, which is in 8-bit form, with the argument 7 in 7-bit
 // form. Standard output has the output's bytes and nothing else; a refusal, and any other argument, are said on standard error.
+#![tactic(auto)]
+
 use libc::{STDERR_FILENO, STDIN_FILENO, STDOUT_FILENO};
 use paper::{Converted, Form, Refusal};
 use refusals::{LEAST_WORK, LONGEST_INPUT};
@@ -10,7 +12,7 @@ const ROOM: usize = LONGEST_INPUT + 1;
 // A byte of the text makes at most three bytes, so that no output is longer.
 const LONGEST_OUTPUT: usize = 3 * LONGEST_INPUT;
 
-#[derive(Drop)]
+#[derive(Clone, Copy)]
 enum Chosen {
     Reading(Form),
     Unknown,

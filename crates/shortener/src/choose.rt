@@ -10,7 +10,7 @@ ghost use Rattle.shortener.specs.Choices.{is_before, chosen_by, choice_at, packe
 use crate::code::{FIRST, MIDDLE, OF_OPENING, costs_by, place_by};
 use crate::four::{Four, IN_G0, IN_G1, IN_G2, IN_G3, lower, moving, sum};
 
-#[derive(Drop)]
+#[derive(Clone, Copy)]
 struct Best {
     element: u8,
     cost: usize,
@@ -73,7 +73,7 @@ fn chosen(cost: usize, best: Best, place: u8, shown: u8) -> u8
     best.element
 }
 
-#[derive(Drop)]
+#[derive(Clone, Copy)]
 struct Turned {
     choices: u8,
     costs: Four,

@@ -4,7 +4,7 @@ ghost use Rattle.shortest.specs.ShortestText as text;
 ghost use Rattle.shortener.specs.Fours as fours;
 ghost use Rattle.shortener.specs.Fours.{of_four, four_of, AtMost, lowest_of};
 
-#[derive(Drop)]
+#[derive(Clone, Copy)]
 pub(crate) struct Four {
     pub(crate) g0: usize,
     pub(crate) g1: usize,

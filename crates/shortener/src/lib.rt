@@ -1,6 +1,8 @@
 // The shortest 7-bit text of a sequence, over lent buffers (request #108). The text is surveyed for a refusal, and weighed for the length of
 // its output, before anything is written. Then each unit, an answer or an opening, has a code in the work buffer; going back over the codes
 // each is replaced by what is chosen there; and going forward again the output is written.
+#![tactic(auto)]
+
 mod choose;
 mod code;
 mod four;

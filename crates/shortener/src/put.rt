@@ -23,7 +23,7 @@ use openings::{opening_length, put_opening};
 use paper::Form;
 
 // The place in the text, the unit, what is written, and what GL shows there.
-#[derive(Drop)]
+#[derive(Clone, Copy)]
 struct Written {
     place: usize,
     unit: usize,

@@ -19,7 +19,7 @@ use openings::opening_length;
 use paper::Form;
 
 // How far a text has been weighed: the place in it, how many units there are, the output up to the last opening, and what it costs since.
-#[derive(Drop)]
+#[derive(Clone, Copy)]
 pub(crate) struct Weighed {
     pub(crate) place: usize,
     pub(crate) count: usize,

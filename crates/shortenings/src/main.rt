@@ -4,6 +4,8 @@
 // standard output has a line with the length of the output or with the refusal; a line with all bytes of the lent buffer after
 // the call; and a line with how many bytes at the start of the work buffer are zero, and how many at its end still have the
 // fill. A case that is too long for this program, or that the input ends inside, ends the run.
+#![tactic(auto)]
+
 use libc::{STDIN_FILENO, STDOUT_FILENO};
 use paper::{Converted, Form};
 
@@ -21,7 +23,7 @@ const SHOWN_ROOM: usize = 3 * LENT_ROOM;
 const CASES: usize = 100000;
 
 // What a case has before its text.
-#[derive(Drop)]
+#[derive(Clone, Copy)]
 struct Case {
     form: Form,
     fill: u8,
@@ -30,7 +32,7 @@ struct Case {
     length: usize,
 }
 
-#[derive(Drop)]
+#[derive(Clone, Copy)]
 enum Asked {
     One(Case),
     Missing,

@@ -1,4 +1,6 @@
 // Where a reader stands: at the start of a text, elsewhere, and at the text's end; and how much of an opening it has recorded.
+#![tactic(auto)]
+
 ghost use Rattle.std.specs.Prelude.{◌≡◌};
 ghost use Rattle.paper.specs.Starting.{started};
 ghost use Rattle.paper.specs.Marks.{recording};

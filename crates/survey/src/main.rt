@@ -1,5 +1,7 @@
 // Says of the text on standard input whether it can be released, and what it has, a line for each figure. The text is in 8-bit
 // form, with the argument 7 in 7-bit form.
+#![tactic(auto)]
+
 use libc::{STDERR_FILENO, STDIN_FILENO, STDOUT_FILENO};
 use paper::{EndWord, Figures, FirstRefusal, Form, Surveyed};
 use refusals::LONGEST_TEXT;
@@ -7,7 +9,7 @@ use refusals::LONGEST_TEXT;
 // A text may have 65,536 bytes; one byte more shows that it is longer.
 const ROOM: usize = LONGEST_TEXT + 1;
 
-#[derive(Drop)]
+#[derive(Clone, Copy)]
 enum Chosen {
     Reading(Form),
     Unknown,

@@ -1,0 +1,34 @@
+-- The tests leave 2/1 to 7/14 on the ground, where the element that shows decides.
+use Rattle.std.proofs.Common.{◌≡◌, ◌%◌, true, arith, eq-eqb}
+use Rattle.paper.specs.Choice.{between}
+use Rattle.paper.specs.CodeTable.{bit8}
+use Rattle.paper.proofs.Choices.{in_bounds, above_bounds}
+use Rattle.items.specs.Letters.{is_letter}
+use Rattle.items.proofs.InsideSequences.{below_bounds}
+use Rattle.items.proofs.letter.is_letter.Goals as goal
+
+within : (c : goal.Else-position-eq-DELETE) → between 0x21 0x7E (c.args.byte % bit8) ≡ true
+within c =
+    in_bounds 0x21 0x7E (c.args.byte % bit8) (omega (arith, c.if-position-le-SPACE.false)) (omega (arith, c.if-position-eq-DELETE.false))
+
+pub returns-then-position-le-SPACE : goal.returns-then-position-le-SPACE
+unfolding is_letter
+returns-then-position-le-SPACE c = simp (below_bounds 0x21 0x7E (c.args.byte % bit8) (omega (arith, c.if-position-le-SPACE.true)))
+
+pub returns-then-position-eq-DELETE : goal.returns-then-position-eq-DELETE
+unfolding is_letter
+returns-then-position-eq-DELETE c = let b = c.args.byte in
+    simp (above_bounds 0x21 0x7E (b % bit8) (omega (arith, c.if-position-le-SPACE.false)) (omega (arith, c.if-position-eq-DELETE.true)))
+
+pub returns-then-form_has : goal.returns-then-form_has
+unfolding is_letter
+returns-then-form_has c = simp (
+      within c.before,
+      ← c.single-taken.ensures,
+      eq-eqb _ _ c.if-taken-ne-NONE.false,
+      ← c.form_has.ensures,
+      c.if-form_has.true,
+      c.element_of.ensures,
+      c.size_in.ensures,
+      c.is_one.ensures,
+    )
