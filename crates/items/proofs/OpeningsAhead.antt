@@ -1,15 +1,14 @@
 -- Whether the rest of an opening stands at a place, told byte by byte: past the end of a text nothing of it does, and elsewhere the next
 -- byte must be its own.
-use Rattle.std.proofs.Common.{◌≡◌, ℕ, suc, ◌+◌, ◌-◌, ◌<◌, ◌≤◌, Bool, true, false, eqb, List, [], ◌∷◌, length, get_or, drop, sym, refl, ap, ◌∙◌, add-one, arith, length-append, length-drop, drop_of_length-le, drop-cons, eq-eqb, ne_eqb}
+use Rattle.std.proofs.Common.{◌≡◌, ℕ, suc, ◌+◌, ◌-◌, ◌<◌, ◌≤◌, Bool, true, false, eqb, List, [], ◌∷◌, length, get_or, drop, refl, ap, ◌∙◌, add-one, arith, length-append, length-drop, drop_of_length-le, drop-cons, ne_eqb}
 use Rattle.paper.specs.Choice.{◌gives◌or◌}
-use Rattle.paper.specs.CodeTable.{esc}
 use Rattle.paper.specs.Starting.{opening}
 use Rattle.paper.specs.Searching.{begins_with}
 use Rattle.paper.specs.declared.Form.{Form}
 use Rattle.paper.specs.declared.Form.TheVariants.{Seven, Eight}
 use Rattle.paper.proofs.Choices.{impossible}
 use Rattle.paper.proofs.ListsThatEnd.{begins_rest, begins_byte}
-use Rattle.items.specs.Items.{Item, opening_item, opened_or, is_opening, after_one, after_one_or}
+use Rattle.items.specs.Items.{Item, opened_or, is_opening, after_one, after_one_or}
 
 abbrev pub ahead : Form → List ℕ → ℕ → ℕ → Bool
 ahead m text place n = begins_with (drop place text) (drop n (opening m))

@@ -1,7 +1,7 @@
 -- No rule of the paper: for contracts of this layer.
 -- What is known of a reader between two items, in cells: the sizes of its sets, not their Final Bytes; what GL and GR show; and the element
 -- that a single shift takes.
-use Rattle.std.specs.Prelude.{◌≡◌, ℕ, ◌%◌, List, [], ◌∷◌, set, nat_lt, slice_index, slice_set}
+use Rattle.std.specs.Prelude.{◌≡◌, ℕ, ◌%◌, List, [], ◌∷◌, nat_lt, slice_index, slice_set}
 use Rattle.paper.specs.Choice.{◌gives◌or◌}
 use Rattle.paper.specs.CodeTable.{bit8}
 use Rattle.paper.specs.Starting.{started}

@@ -31,6 +31,7 @@ pub struct Lane {
 }
 
 // The last byte of GL that is a position of a set of one byte, or SPACE; where there are several bytes to a character the last control.
+#[tactic(auto, using(paper::proofs::Tests::tests))]
 fn last_plain(size: Size) -> u8
     ensures { result ≡ last_plain size.0 }
 {
@@ -43,6 +44,7 @@ fn last_plain(size: Size) -> u8
 }
 
 // Beside the plain bytes the positions of a set of one byte in GR.
+#[tactic(auto, using(paper::proofs::Tests::tests))]
 fn lane_with(plain: u8, size: Size) -> Lane
     ensures { result ≡ lane_with plain size.0 }
 {
@@ -101,6 +103,7 @@ fn is_quiet(byte: u8) -> bool
     both(byte != ESC, !between(SO, SI, byte))
 }
 
+#[tactic(auto, unfolding(crate::specs::Passing::passes))]
 fn passes(lane: Lane, byte: u8) -> bool
     ensures { result ≡ passes lane byte }
 {
@@ -128,6 +131,7 @@ fn passes_alone(lane: Lane, byte: u8) -> bool
 }
 
 // Whether the byte at a place passes.
+#[tactic(auto, using(paper::proofs::Tests::tests), unfolding(crate::specs::Passing::byte_ahead))]
 pub fn byte_ahead(lane: Lane, text: &[u8], place: usize) -> bool
     ensures { result ≡ byte_ahead lane text.now place }
 {
@@ -165,6 +169,7 @@ pub fn block_ahead(lane: Lane, text: &[u8], place: usize) -> bool
 }
 
 // Whether the state is what it was after SI, SPACE and SO: GL shows G1, and 2/0 is SPACE in G0.
+#[tactic(auto, using(paper::proofs::Tests::tests))]
 pub fn has_gaps(state: &[u8; CELLS]) -> bool
     ensures { result ≡ has_gaps state.now }
 {

@@ -32,6 +32,7 @@ pub(crate) struct Line {
 }
 
 // A line that has no bytes yet.
+#[tactic(auto, unfolding(crate::specs::Making::written))]
 pub(crate) fn empty() -> Line
     ensures { written result ≡ [] }
 {
@@ -42,6 +43,7 @@ pub(crate) fn empty() -> Line
 }
 
 // How many bytes a line has: a length beyond the room is that of a full line.
+#[tactic(auto, unfolding(crate::specs::Making::cut, crate::specs::Making::written))]
 pub(crate) fn length_of(line: Line) -> usize
     ensures { result ≡ length (written line) }
 {
@@ -53,6 +55,7 @@ pub(crate) fn length_of(line: Line) -> usize
 }
 
 // A line and one byte more.
+#[tactic(auto, unfolding(crate::specs::Making::written))]
 pub(crate) fn put_byte(line: Line, byte: u8) -> Line
     ensures { written result ≡ cut (written line ++ (byte ∷ [])) }
 {
@@ -79,6 +82,7 @@ pub(crate) fn put_text(line: Line, text: &[u8]) -> Line
 }
 
 // The digit of a number below sixteen.
+#[tactic(auto, using(paper::proofs::Tests::tests))]
 fn digit(number: usize) -> u8
     requires { number < 16 }
     ensures { result ≡ digit number }

@@ -1,21 +1,18 @@
 -- What one byte more does to a lost reader. How much of the opening it has matched is the longest beginning of it with which the
 -- bytes since the refused one end, and that is the whole opening exactly when they end with it. With that byte the reader answers
 -- instep and is the starting reader; with any other it answers skipped, and has kept the byte.
-use Prim.Native.Nat.{ℕ, zero, suc, ◌+◌, ◌<◌, ◌≤◌}
+use Prim.Native.Nat.{ℕ, ◌+◌, ◌<◌, ◌≤◌}
 use mathlib.Core.Path.{◌≡◌, refl, sym, ap, ◌∙◌}
-use mathlib.Core.Logic.{⊎_elim}
 use mathlib.Core.Bool.{Bool, true, false}
-use mathlib.Core.List.{List, [], ◌∷◌, ◌++◌, append_assoc}
+use mathlib.Core.List.{List, [], ◌∷◌, ◌++◌}
 use native.Mathlib.Omega.{arith}
-use native.Mathlib.Nat.{eq-or-lt_of_le}
 use borrow.Author.Tests.{leb-true, leb-false, eq-eqb, ne_eqb, lt-ltb, le-ltb}
 use lib.Dec.{leb, ltb, eqb}
-use lib.ListN.{take, length, get_or, length-append}
-use lib.Seq.{take-suc, take_all, length-take-le}
+use lib.ListN.{length, length-append}
 use Rattle.paper.specs.Choice.{◌gives◌or◌}
 use Rattle.paper.specs.Words.{Form, Standing, Reader, Answer, Answered}
 use Rattle.paper.specs.Starting.{started, opening}
-use Rattle.paper.specs.Searching.{ends_with, longest, matched_with, most_skipped, skipped_bytes, one_more}
+use Rattle.paper.specs.Searching.{ends_with, matched_with, most_skipped, skipped_bytes, one_more}
 use Rattle.paper.specs.Marks.{recording, record_after}
 use Rattle.paper.specs.Characters.{standing_at}
 use Rattle.paper.specs.Answering.{answer_lost, answer_to}

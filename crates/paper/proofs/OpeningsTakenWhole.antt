@@ -1,18 +1,16 @@
 -- Where an opening is read in step it can be taken whole, and a mark is met nowhere else. On the ground an unbroken opening is six
 -- designations and a mark, and the reader after it is the starting reader. Wherever no opening begins, a byte is no mark, and what
 -- follows reads as by a reader that has recorded nothing: what the record holds of an opening that is not completed here does not tell.
-use Prim.Native.Nat.{ℕ, zero, suc, ◌+◌, ◌<◌, ◌≤◌}
+use Prim.Native.Nat.{ℕ, zero, suc, ◌<◌, ◌≤◌}
 use mathlib.Core.Path.{◌≡◌, refl, sym, ap, ◌∙◌, subst}
 use mathlib.Core.Logic.{◌⊎◌, inl, inr, ⊎_elim}
 use mathlib.Core.Bool.{Bool, true, false}
 use mathlib.Core.List.{List, [], ◌∷◌, ◌++◌}
 use native.Mathlib.Omega.{arith}
-use native.Mathlib.Nat.{eq-or-lt_of_le}
-use borrow.Author.Tests.{eqb-true, eqb-false, ne_eqb}
+use borrow.Author.Tests.{eqb-true, eqb-false}
 use lib.Dec.{eqb}
-use lib.ListN.{drop, length, get_or, length-append}
-use lib.Seq.{drop-cons, drop-length}
-use Rattle.paper.specs.Choice.{◌gives◌or◌, between}
+use lib.ListN.{drop, length, length-append}
+use Rattle.paper.specs.Choice.{between}
 use Rattle.paper.specs.Words.{Form, Seven, Eight, ControlElement, Element, G0, G1, G2, G3, Sets, GraphicArea, Within, Standing}
 use Rattle.paper.specs.Words.{Reader, Answer, Answered}
 use Rattle.paper.specs.CodeTable.{form_has, column_area, form_has_column, position_of, esc}
@@ -21,13 +19,13 @@ use Rattle.paper.specs.Starting.{starting_sets, started, opening}
 use Rattle.paper.specs.Sequences.{sequence_byte, c1_function, shift_or_other, meaning_of_none, designation}
 use Rattle.paper.specs.Sequences.{by_intermediate, meaning_of_one}
 use Rattle.paper.specs.Searching.{begins_with, matched_with, one_more}
-use Rattle.paper.specs.Marks.{recording, is_complete, is_in_step, recorded}
+use Rattle.paper.specs.Marks.{recording, recorded}
 use Rattle.paper.specs.Characters.{standing_at, c0_byte, byte_in}
 use Rattle.paper.specs.Answering.{means, answer_within, answer_in_step, answer_lost, answer_standing, answer_to}
 use Rattle.paper.specs.Texts.{reader_after}
-use Rattle.paper.specs.WrittenForms.{Entry, given, mark, with_answer, with_mark, sequence_from}
+use Rattle.paper.specs.WrittenForms.{Entry, given, mark, with_answer, sequence_from}
 use Rattle.paper.proofs.Choices.{impossible, gives_has}
-use Rattle.paper.proofs.LawfulAnswers.{form_on, shows_on}
+use Rattle.paper.proofs.LawfulAnswers.{shows_on}
 use Rattle.paper.proofs.AnswersWithoutTheRecord.{answer_of}
 use Rattle.paper.proofs.ListsThatEnd.{begins_rest, rest_begins}
 use Rattle.paper.proofs.BeginningsThatFallBack.{matched_on, none_matched, without, less_without}

@@ -4,14 +4,14 @@
 use Prim.Native.Nat.{ℕ, suc, ◌<◌, ◌≤◌}
 use mathlib.Core.Path.{◌≡◌, refl, sym, ap, ◌∙◌, subst}
 use mathlib.Core.Logic.{⊎_elim}
-use mathlib.Core.Bool.{Bool, true}
+use mathlib.Core.Bool.{true}
 use mathlib.Core.List.{List, [], ◌∷◌}
 use native.Mathlib.Omega.{arith}
 use native.Mathlib.Nat.{eq-or-lt_of_le}
 use lib.Dec.{eqb}
 use lib.ListN.{length, get_or}
-use Rattle.paper.specs.Choice.{◌gives◌or◌, between}
-use Rattle.paper.specs.Words.{Form, Seven, Eight, Area, Element, G0, G1, Sets, Shift, LS0, LS1, LS2, LS3, LS1R, LS2R, LS3R, SS2, SS3}
+use Rattle.paper.specs.Choice.{between}
+use Rattle.paper.specs.Words.{Form, Seven, Eight, Area, Element, G0, G1, Sets, LS0, LS1, LS2, LS3, LS1R, LS2R, LS3R, SS2, SS3}
 use Rattle.paper.specs.Words.{GraphicArea, Within, Standing, Reader, Answer, Answered, EndWord, FirstRefusal, Never}
 use Rattle.paper.specs.CodeTable.{area_of, form_has, column_area, form_has_column, position_of, so, si}
 use Rattle.paper.specs.Sets.{set_byte}

@@ -7,7 +7,7 @@ use mathlib.Core.List.{List, [], ◌∷◌, ◌++◌}
 use native.Mathlib.Omega.{arith}
 use borrow.Author.Tests.{ltb-true, ltb-false}
 use lib.Dec.{ltb, leb, eqb}
-use Rattle.paper.specs.Choice.{◌gives◌or◌, between}
+use Rattle.paper.specs.Choice.{between}
 use Rattle.paper.specs.Words.{Form, Seven, Eight, Area, Element, G1, Kind, Count, Sets, SetByte, OfSpace, OfDelete, OfSet, Outside}
 use Rattle.paper.specs.Words.{SequenceByte, Intermediate, Final, Neither, Intermediates, Shift, LS0, LS1, LS2, LS3, LS1R, LS2R}
 use Rattle.paper.specs.Words.{LS3R, SS2, SS3, Meaning, NoMeaning, Function, Shifts, GraphicArea, PositionBytes, Within, Standing}

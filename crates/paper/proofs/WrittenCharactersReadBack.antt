@@ -1,7 +1,7 @@
 -- The bytes that are written for a character are read as that character, once over the set and the byte count, wherever a first byte
 -- begins a character of its element: in GL or GR where it shows, or after a single shift.
 use Prim.Native.Nat.{ℕ, ◌≤◌, ◌<◌}
-use mathlib.Core.Path.{◌≡◌, refl, ap, ◌∙◌, subst}
+use mathlib.Core.Path.{◌≡◌, ap, ◌∙◌, subst}
 use mathlib.Core.Bool.{true}
 use mathlib.Core.List.{List, ◌∷◌, ◌++◌, map}
 use native.Mathlib.Omega.{arith}

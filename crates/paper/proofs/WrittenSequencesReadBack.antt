@@ -5,7 +5,7 @@ use mathlib.Core.Path.{◌≡◌, refl, sym, ap, ◌∙◌, subst}
 use mathlib.Core.Bool.{true}
 use mathlib.Core.List.{List, ◌∷◌, ◌++◌}
 use native.Mathlib.Omega.{arith}
-use Rattle.paper.specs.Choice.{◌gives◌or◌, between}
+use Rattle.paper.specs.Choice.{between}
 use Rattle.paper.specs.Words.{Form, Seven, Eight, ControlElement, Area, Element, Kind, Of94, Sets, SequenceByte, Intermediate, Final}
 use Rattle.paper.specs.Words.{Intermediates, Meaning, GraphicArea, Within, Reader, Answer, Answered}
 use Rattle.paper.specs.CodeTable.{position_of, column_area, bit8, esc}

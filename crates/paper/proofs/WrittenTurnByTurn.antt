@@ -1,10 +1,9 @@
 -- What is written for a text is written answer by answer: nothing for the answers that the sequence leaves out, which leave the writer
 -- as it was. All along the writer has the reader's sets, since what an answer does to these is said by the answer itself.
-use Prim.Native.Nat.{ℕ, suc, ◌-◌}
+use Prim.Native.Nat.{ℕ, ◌-◌}
 use mathlib.Core.Path.{◌≡◌, refl}
-use mathlib.Core.List.{List, ◌∷◌, ◌++◌}
+use mathlib.Core.List.{List, ◌++◌}
 use lib.Dec.{ltb, eqb}
-use Rattle.paper.specs.Choice.{◌gives◌or◌}
 use Rattle.paper.specs.Words.{Form, Seven, Eight, Area, Element, Set, SetByte, OfSpace, OfDelete, OfSet, Outside}
 use Rattle.paper.specs.Words.{SequenceByte, Intermediate, Final, Neither, Intermediates, Meaning, NoMeaning, Function, Shifts}
 use Rattle.paper.specs.Words.{GraphicArea, PositionBytes, Within, Standing, Reader, Answer, Answered}

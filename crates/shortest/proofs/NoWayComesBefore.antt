@@ -3,7 +3,7 @@
 use Prim.Native.Nat.{ℕ, ◌+◌, ◌<◌}
 use mathlib.Core.Path.{◌≡◌, subst}
 use mathlib.Core.Bool.{true, false}
-use mathlib.Core.Logic.{◌⊎◌, ⊎_elim}
+use mathlib.Core.Logic.{⊎_elim}
 use mathlib.Core.List.{List, ◌++◌}
 use native.Mathlib.Omega.{arith}
 use native.Mathlib.Nat.{eq-or-lt_of_le}
@@ -15,7 +15,7 @@ use Rattle.paper.specs.declared.Sets.{Sets}
 use Rattle.paper.specs.declared.Answer.{Answer}
 use Rattle.paper.proofs.WhatCanBeWritten.{CanBeWritten, Steps, said}
 use Rattle.shortest.specs.ByteOrder.{NotAfter}
-use Rattle.shortest.specs.ShortestText.{fits, bytes_under, shift_to, rank, moving, cheapest, stays}
+use Rattle.shortest.specs.ShortestText.{fits, bytes_under, shift_to, rank, moving, cheapest}
 use Rattle.shortest.specs.ShortestText.{costs, shortest_from}
 use Rattle.shortest.proofs.TextsInOrder.{by_length, by_bytes, not_after_itself}
 use Rattle.shortest.proofs.TheCheapestShift.{cheapest_key, cheapest_moves}

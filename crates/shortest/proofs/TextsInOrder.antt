@@ -1,7 +1,8 @@
 -- Shorter first, then byte order: an order of texts, kept where texts are put together piece by piece; of two texts that are neither after
 -- the other there is one.
 use Prim.Native.Nat.{ℕ, ◌<◌, ◌≤◌}
-use mathlib.Core.Path.{◌≡◌, refl, ap, ◌∙◌}
+use mathlib.Core.Path.{◌≡◌, refl, ◌∙◌}
+use mathlib.Core.Logic.{◌⊎◌, inl, inr, ⊎_elim}
 use mathlib.Core.List.{List, [], ◌∷◌, ◌++◌}
 use native.Mathlib.Omega.{arith}
 use lib.ListN.{length, length-append}
@@ -62,16 +63,26 @@ no_longer (as_long h p) = omega arith
 
 -- ---- of two texts that are not after each other there is one
 
-one_in_order : {x : List ℕ} (y : List ℕ) → length x ≡ length y → InByteOrder x y → InByteOrder y x → x ≡ y
-one_in_order [] n nothing q = refl
-one_in_order (b ∷ y) n nothing q = absurd (omega arith)
-one_in_order (b ∷ y) n (lower h) (lower k) = absurd (omega arith)
-one_in_order (b ∷ y) n (lower h) (alike q) = absurd (omega arith)
-one_in_order (b ∷ y) n (alike p) (lower k) = absurd (omega arith)
-one_in_order (b ∷ y) n (alike p) (alike q) = ap (λ (r : List ℕ). b ∷ r) (one_in_order y (omega arith) p q)
+-- the first byte is lower, or the same with the rest in order
+first_bytes : {a b : ℕ} {x y : List ℕ} → InByteOrder (a ∷ x) (b ∷ y) → (a < b) ⊎ ((a ≡ b) × InByteOrder x y)
+first_bytes (lower h) = inl h
+first_bytes (alike p) = inr (refl, p)
+
+one_in_order : (x y : List ℕ) → length x ≡ length y → InByteOrder x y → InByteOrder y x → x ≡ y
+one_in_order [] [] n p q = refl
+one_in_order [] (b ∷ y) n p q = absurd (omega arith)
+one_in_order (a ∷ x) [] n p q = absurd (omega arith)
+one_in_order (a ∷ x) (b ∷ y) n p q =
+    ⊎_elim
+    (λ h. ⊎_elim (λ k. absurd (omega arith)) (λ k. absurd (omega arith)) (first_bytes q))
+    (λ h. ⊎_elim
+    (λ k. absurd (omega arith))
+    (λ k. let e = one_in_order x y (omega arith) h.1 k.1 in let f = h.0 in cc)
+    (first_bytes q))
+    (first_bytes p)
 
 pub one_of_two : {x y : List ℕ} → NotAfter x y → NotAfter y x → x ≡ y
 one_of_two (shorter h) (shorter k) = absurd (omega arith)
 one_of_two (shorter h) (as_long k q) = absurd (omega arith)
 one_of_two (as_long h p) (shorter k) = absurd (omega arith)
-one_of_two {x} {y} (as_long h p) (as_long k q) = one_in_order y h p q
+one_of_two {x} {y} (as_long h p) (as_long k q) = one_in_order x y h p q

@@ -15,12 +15,12 @@ returns-then-byte-opening_at c = search (tests, ← next_match_is, ← c.opening
 pub returns-then-matched-whole : goal.returns-then-matched-whole
 unfolding next_match
 returns-then-matched-whole c = search (
-      tests,
-      ← next_match_is,
-      ← c.opening_length-whole.ensures,
-      ← c.opening_at.ensures,
-      c.begun_at.ensures,
-    )
+  tests,
+  ← next_match_is,
+  ← c.opening_length-whole.ensures,
+  ← c.opening_at.ensures,
+  c.begun_at.ensures,
+)
 
 pub returns : goal.returns
 unfolding next_match

@@ -1,5 +1,4 @@
 -- The search over what is left of the text is the whole search.
-use Prim.Native.Nat.{◌-◌}
 use native.Mathlib.Omega.{arith}
 use Rattle.paper.proofs.Tests.{tests}
 use Rattle.search.specs.NextOpening.{opening_after}

@@ -4,10 +4,10 @@ use Rattle.unicode_numbers.proofs.locate.Goals as goal
 
 pub returns : goal.returns
 returns c = simp (
-      only_position,
-      c.greek.ensures,
-      c.greek_byte.ensures,
-      c.position_with-in_greek.ensures,
-      c.latin.ensures,
-      c.position_with.ensures,
-    )
+  only_position,
+  c.greek.ensures,
+  c.greek_byte.ensures,
+  c.position_with-in_greek.ensures,
+  c.latin.ensures,
+  c.position_with.ensures,
+)

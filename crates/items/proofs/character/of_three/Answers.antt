@@ -1,16 +1,14 @@
 -- A later byte is refused or taken, and one that is taken stands inside the text.
-use Rattle.std.proofs.Common.{◌<◌, length, arith}
+use Rattle.std.proofs.Common.{arith}
 use Rattle.items.proofs.TakenInside.{taken_inside}
 use Rattle.items.proofs.character.of_three.Goals as goal
 
--- conv: inside speaks of Else-refusal-ne-TAKEN, called at {'After-position_in-second', 'After-shared_slice_known-2-1-unread'}
-inside : (c : goal.Else-refusal-ne-TAKEN) → let s = c.args in s.place < length s.text.now
-inside c =
+pub bounds-text-place : goal.bounds-text-place
+bounds-text-place c =
     let s = c.args in
     taken_inside s.form s.area s.kind s.text.now s.place (rw c.later_byte-refusal.ensures at c.if-refusal-ne-TAKEN.false)
 
-pub bounds-text-place : goal.bounds-text-place
-bounds-text-place c = inside c.before
-
 pub third_of_three-requires : goal.third_of_three-requires
-third_of_three-requires c = omega (arith, inside c.before.before)
+third_of_three-requires c =
+    let s = c.args in
+    omega (arith, taken_inside s.form s.area s.kind s.text.now s.place (rw c.later_byte-refusal.ensures at c.if-refusal-ne-TAKEN.false))

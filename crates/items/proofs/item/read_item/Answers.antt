@@ -1,53 +1,51 @@
 -- A letter is a law of its own, and each other way out is a law of an item's first byte.
-use Rattle.std.proofs.Common.{sym, ◌∙◌, ⊎_elim, rules}
-use borrow.Author.Tests.{not-true, not-false}
+use Rattle.std.proofs.Common.{sym, ◌∙◌, rules}
 use Rattle.items.proofs.FirstBytes.{at_escape, at_another_form, at_control, at_graphic}
 use Rattle.items.proofs.ItemsOfBytes.{letter_item}
 use Rattle.items.proofs.item.read_item.Goals as goal
+use Rattle.items.proofs.item.read_item.Goals.{then-taken-eq-NONE+else-byte-eq-ESC, else-taken-eq-NONE, then-taken-eq-NONE-2+else-is_control, else-taken-eq-NONE-2}
 
 pub returns-then-is_letter : goal.returns-then-is_letter
-returns-then-is_letter c =
-    (
-      (rw (c.element_of.ensures, c.one.ensures.1) at c.character_of.ensures.0) ∙
-          sym (letter_item _ _ _ _ c.if-place-text.false (sym c.is_letter.ensures ∙ c.if-is_letter.true)),
-      rw c.character_of.ensures.1 (search rules),
-    )
+returns-then-is_letter c = (
+  (rw (c.element_of.ensures, c.one.ensures.1) at c.character_of.ensures.0) ∙
+      sym (letter_item _ _ _ _ c.if-place-text.false (sym c.is_letter.ensures ∙ c.if-is_letter.true)),
+  rw c.character_of.ensures.1 (search rules),
+)
 
 pub returns-then-byte-eq-ESC : goal.returns-then-byte-eq-ESC
-returns-then-byte-eq-ESC c =
-    (
-      c.after_escape.ensures.0 ∙
-          at_escape _ _ _ _ c.if-place-text.false (sym c.single-taken.ensures ∙ c.if-taken-eq-NONE.true) c.if-byte-eq-ESC.true,
-      c.after_escape.ensures.1,
-    )
+returns-then-byte-eq-ESC c = (
+  c.after_escape.ensures.0 ∙
+      at_escape _ _ _ _ c.if-place-text.false (sym c.single-taken.ensures ∙ c.if-taken-eq-NONE.true) c.if-byte-eq-ESC.true,
+  c.after_escape.ensures.1,
+)
 
 pub returns-then-not-form_has : goal.returns-then-not-form_has
-returns-then-not-form_has c =
-    (
-      c.refused.ensures.0 ∙
-          at_another_form _ _ _ _ c.if-place-text.false
-          (sym c.form_has.ensures ∙ not-true c.form_has.result c.if-not-form_has.true),
-      c.refused.ensures.1,
-    )
+returns-then-not-form_has c = (
+  c.refused.ensures.0 ∙
+      at_another_form _ _ _ _ c.if-place-text.false
+      (sym c.form_has.ensures ∙ c.if-not-form_has.true),
+  c.refused.ensures.1,
+)
 
 pub returns-then-is_control : goal.returns-then-is_control
-returns-then-is_control c =
-    (
-      c.control.ensures.0 ∙
-          at_control _ _ _ _ c.if-place-text.false (sym c.single-taken.ensures ∙ c.if-taken-eq-NONE-2.true)
-          (λ e. ⊎_elim (λ w. w.1.left e) (λ w. w.left c.if-taken-eq-NONE-2.true) c.if-taken-eq-NONE.branch)
-          (sym c.form_has.ensures ∙ not-false c.form_has.result c.if-not-form_has.false)
-          (sym c.is_control.ensures ∙ c.if-is_control.true),
-      c.control.ensures.1,
-    )
+returns-then-is_control c = (
+  c.control.ensures.0 ∙
+      at_control _ _ _ _ c.if-place-text.false (sym c.single-taken.ensures ∙ c.if-taken-eq-NONE-2.true)
+      (λ e. elim c.if-taken-eq-NONE.branch [ then-taken-eq-NONE+else-byte-eq-ESC w ↦ w.if-byte-eq-ESC.false e | else-taken-eq-NONE w ↦ w.if-taken-eq-NONE.false c.if-taken-eq-NONE-2.true ])
+      (sym c.form_has.ensures ∙ c.if-not-form_has.false)
+      (sym c.is_control.ensures ∙ c.if-is_control.true),
+  c.control.ensures.1,
+)
 
 pub returns : goal.returns
-returns c =
-    (
-      c.graphic.ensures.0 ∙
-          at_graphic _ _ _ _ c.if-place-text.false
-          (sym c.form_has.ensures ∙ not-false c.form_has.result c.if-not-form_has.false)
-          (λ ground. ⊎_elim (λ w. sym w.1.ensures ∙ w.2.left) (λ w. absurd (w.left (c.single-taken.ensures ∙ ground)))
-          c.if-taken-eq-NONE-2.branch),
-      c.graphic.ensures.1,
-    )
+returns c = (
+  c.graphic.ensures.0 ∙
+      at_graphic _ _ _ _ c.if-place-text.false
+      (sym c.form_has.ensures ∙ c.if-not-form_has.false)
+      (λ ground.
+      elim c.if-taken-eq-NONE-2.branch [
+        | then-taken-eq-NONE-2+else-is_control w ↦ sym w.is_control.ensures ∙ w.if-is_control.false
+        | else-taken-eq-NONE-2 w ↦ absurd (w.if-taken-eq-NONE-2.false (c.single-taken.ensures ∙ ground))
+      ]),
+  c.graphic.ensures.1,
+)

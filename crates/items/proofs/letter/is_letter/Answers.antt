@@ -7,10 +7,6 @@ use Rattle.items.specs.Letters.{is_letter}
 use Rattle.items.proofs.InsideSequences.{below_bounds}
 use Rattle.items.proofs.letter.is_letter.Goals as goal
 
-within : (c : goal.Else-position-eq-DELETE) → between 0x21 0x7E (c.args.byte % bit8) ≡ true
-within c =
-    in_bounds 0x21 0x7E (c.args.byte % bit8) (omega (arith, c.if-position-le-SPACE.false)) (omega (arith, c.if-position-eq-DELETE.false))
-
 pub returns-then-position-le-SPACE : goal.returns-then-position-le-SPACE
 unfolding is_letter
 returns-then-position-le-SPACE c = simp (below_bounds 0x21 0x7E (c.args.byte % bit8) (omega (arith, c.if-position-le-SPACE.true)))
@@ -22,8 +18,11 @@ returns-then-position-eq-DELETE c = let b = c.args.byte in
 
 pub returns-then-form_has : goal.returns-then-form_has
 unfolding is_letter
-returns-then-form_has c = simp (
-      within c.before,
+returns-then-form_has c =
+    let inside : between 0x21 0x7E (c.args.byte % bit8) ≡ true =
+    in_bounds 0x21 0x7E (c.args.byte % bit8) (omega (arith, c.if-position-le-SPACE.false)) (omega (arith, c.if-position-eq-DELETE.false)) in
+    simp (
+      inside,
       ← c.single-taken.ensures,
       eq-eqb _ _ c.if-taken-ne-NONE.false,
       ← c.form_has.ensures,

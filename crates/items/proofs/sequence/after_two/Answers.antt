@@ -8,10 +8,10 @@ returns-then-place-text c = (c.refused.ensures.0 ∙ past_the_end_lem _ _ _ _ _ 
 
 pub returns-then-byte-lt-FIRST_INTERMEDIATE : goal.returns-then-byte-lt-FIRST_INTERMEDIATE
 returns-then-byte-lt-FIRST_INTERMEDIATE c = (
-      c.not_of_sequence.ensures.0 ∙
-          below_intermediates _ _ _ _ _ c.if-place-text.false c.if-byte-lt-FIRST_INTERMEDIATE.true,
-      c.not_of_sequence.ensures.1,
-    )
+  c.not_of_sequence.ensures.0 ∙
+      below_intermediates _ _ _ _ _ c.if-place-text.false c.if-byte-lt-FIRST_INTERMEDIATE.true,
+  c.not_of_sequence.ensures.1,
+)
 
 pub returns-then-byte-le-LAST_INTERMEDIATE : goal.returns-then-byte-le-LAST_INTERMEDIATE
 returns-then-byte-le-LAST_INTERMEDIATE c = (
