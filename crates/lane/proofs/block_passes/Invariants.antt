@@ -1,3 +1,4 @@
+-- The invariant: `all` says whether the bytes tried so far pass; the measure is what is left of sixteen.
 use Prim.Native.Nat.{◌≤◌, ◌-◌}
 use mathlib.Core.Path.{◌≡◌}
 use Rattle.lane.specs.Passing.{pass_all}

@@ -1,3 +1,5 @@
+-- The invariant: what `fill_from` gives from here, after the lines that stand in the buffer, is the whole. The measure is what is
+-- left of the text.
 use Prim.Native.Nat.{◌-◌}
 use lib.ListN.{length}
 use Rattle.paper.specs.Lister.{filled}

@@ -9,7 +9,6 @@ use Rattle.openings.specs.NextMatch.{common}
 use Rattle.openings.proofs.PutWhole.{no_room, put_both}
 use Rattle.openings.proofs.put_opening.Goals as goal
 
--- conv: 11 old arguments, 10 goals
 pub returns-then-place-buffer : goal.returns-then-place-buffer
 returns-then-place-buffer c = let a = c.args in no_room a.form a.buffer.now a.place (omega arith)
 

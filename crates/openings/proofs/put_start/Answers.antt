@@ -1,11 +1,9 @@
--- What is left to put gives the whole.
 use mathlib.Core.Path.{◌∙◌}
 use native.Mathlib.Omega.{arith}
 use lib.ListN.{length-set}
 use Rattle.openings.proofs.PutWhole.{put_more}
 use Rattle.openings.proofs.put_start.Goals as goal
 
--- conv: 10 old arguments, 9 goals
 pub loop-at-preserved : goal.loop-at-preserved
 loop-at-preserved c =
     let l = c.loop-at in (

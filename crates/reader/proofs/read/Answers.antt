@@ -3,7 +3,6 @@ use Rattle.reader.proofs.RecordsAfterAnswers.{in_step_answers, lost_answers}
 use mathlib.Core.Path.{◌∙◌}
 use Rattle.reader.proofs.read.Goals as goal
 
--- conv: 10 old arguments, 8 goals
 pub returns-in-InStep : goal.returns-in-InStep
 returns-in-InStep c =
     (rw (c.record_with.ensures, c.answer_in_step.ensures, c.recording-plain.ensures) at

@@ -1,4 +1,3 @@
--- The search over what is left of the text is the whole search.
 use native.Mathlib.Omega.{arith}
 use Rattle.paper.proofs.Tests.{tests}
 use Rattle.search.specs.NextOpening.{opening_after}

@@ -1,3 +1,4 @@
+-- The search over what is left of the text is the whole search.
 use Prim.Native.Nat.{◌-◌, ◌≤◌}
 use mathlib.Core.Path.{◌≡◌}
 use lib.ListN.{length, drop}

@@ -4,7 +4,6 @@ use Rattle.paper.proofs.ThereAndBack.{inside}
 use Rattle.paper.specs.LatinGreek.{number_in}
 use Rattle.unicode_numbers.proofs.number_in.Goals as goal
 
--- conv: 10 old arguments, 6 goals
 pub number_by-requires : goal.number_by-requires
 unfolding number_in
 number_by-requires c = inside _ _ (sym c.set_byte.ensures ∙ c.in-OfSet.is)

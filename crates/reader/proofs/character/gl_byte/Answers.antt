@@ -2,7 +2,6 @@
 use Rattle.reader.proofs.BytesOfAreas.{in_gl, of_space, of_delete, of_set, of_96}
 use Rattle.reader.proofs.character.gl_byte.Goals as goal
 
--- conv: 10 old arguments, 8 goals
 pub returns-then-byte-eq-SPACE : goal.returns-then-byte-eq-SPACE
 returns-then-byte-eq-SPACE c = simp (
   in_gl _ c.requires.0 c.requires.1,

@@ -4,7 +4,6 @@ use Rattle.paper.specs.CodeTable.{bit8}
 use Rattle.reader.proofs.BytesOfAreas.{in_gr, of_space, of_delete, of_set, of_96}
 use Rattle.reader.proofs.character.gr_byte.Goals as goal
 
--- conv: 10 old arguments, 8 goals
 pub returns-then-position-eq-SPACE : goal.returns-then-position-eq-SPACE
 returns-then-position-eq-SPACE c = simp (
   in_gr _ c.requires c.ranges.byte.fits,

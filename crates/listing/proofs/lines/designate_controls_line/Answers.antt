@@ -1,0 +1,14 @@
+-- What is put after each other is the clause of `answer_line`.
+use Rattle.listing.proofs.CutOnce.{joined}
+use Rattle.listing.proofs.lines.designate_controls_line.Goals as goal
+
+pub returns : goal.returns
+returns c = simp (
+  joined,
+  c.begin.ensures,
+  c.control_element_name.ensures,
+  c.put_field-start.ensures,
+  c.put_number.ensures,
+  c.put_hex.ensures,
+  c.put_byte.ensures,
+)
