@@ -27,6 +27,7 @@ const DESIGNATIONS_OF_OPENING: usize = 6;
 const SHIFTS_OF_OPENING: usize = 2;
 
 // The figures of a text in a form; 8 for one that is longer than 65,536 bytes.
+#[tactic(auto, using(paper::proofs::Tests::tests), unfolding(paper::specs::Surveying::survey_of))]
 pub fn survey(form: Form, text: &[u8]) -> Surveyed
     ensures { result ≡ survey_of form text.now }
 {

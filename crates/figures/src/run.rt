@@ -27,6 +27,7 @@ fn has_space(state: &[u8; CELLS]) -> bool
 }
 
 // The word of a byte that passes.
+#[tactic(auto, using(paper::proofs::Tests::tests), unfolding(lane::specs::Lanes::word_in))]
 fn word_of(space: bool, byte: u8) -> u8
     ensures { result ≡ word_in space byte }
 {
@@ -96,6 +97,7 @@ fn count_blocks(lane: Lane, space: bool, text: &[u8], place: usize, counts: &mut
 }
 
 // Whether the byte at a place before an end passes.
+#[tactic(auto, unfolding(crate::specs::Runs::byte_before))]
 fn byte_before(lane: Lane, text: &[u8], place: usize, end: usize) -> bool
     ensures { result ≡ byte_before lane text.now place end }
 {

@@ -23,6 +23,7 @@ pub(crate) enum Ending {
 }
 
 // The word at the end of a text that was read to its end: after a single shift it ends inside.
+#[tactic(auto, using(paper::proofs::Tests::tests))]
 fn end_after(taken: ElementNumber) -> EndWord
     ensures { result ≡ end_after taken.0 }
 {
