@@ -38,7 +38,6 @@ use Rattle.items.specs.Pieces.{bytes_in, Small}
 use Rattle.items.specs.States.{size_in, changed, starting_cells}
 use Rattle.items.specs.States as states
 use Rattle.items.specs.Items.{Item, opening_word, item_at}
-use Rattle.items.specs.declared.item.Item as declared
 use Rattle.items.proofs.BytesInANumber.{length_of_bytes}
 use Rattle.items.proofs.CharactersGoOn.{kind_in}
 use Rattle.items.proofs.ItemsByBytes.{WaitsOn, NoRefusal, said_bytes, LastByte, Stopped, refused_at, ends_inside_at, Opens, Good}
@@ -57,7 +56,7 @@ passes_start m to text lent = record {
   reader = started m;
   gl = Element.G0;
   shown_is = refl;
-  of_two_lem = tt;
+  of_two = tt;
   stands = record { single = states.none; left = 0; has = refl; stands = refl; nothing_gone = refl };
   passing = passing_starts m to text lent;
 }
@@ -240,7 +239,7 @@ module _ {m to : Form} {text lent cells : List ℕ} {shown at place : ℕ} {buff
         reader = started m;
         gl = Element.G0;
         shown_is = refl;
-        of_two_lem = tt;
+        of_two = tt;
         stands = record { single = states.none; left = 0; has = refl; stands = refl; nothing_gone = refl };
         passing = subst (λ (n : ℕ). Passing m to text lent (started m) Element.G0 (at + length (opening to)) n after) (sym opening_place)
             (passing_opens p.passing opened.ground opened.begins after as_long stored);
@@ -261,7 +260,7 @@ module _ {m to : Form} {text lent cells : List ℕ} {shown at place : ℕ} {buff
       item_writable piece are small =
           let long = sym (length_of_bytes piece) ∙ ap length are ∙ ap length last.bytes_are in record {
             small = small;
-            of_character_lem = λ e. let few = few_of_character last.answer (sym last.word_is ∙ e) in
+            of_character = λ e. let few = few_of_character last.answer (sym last.word_is ∙ e) in
                 (omega (arith, few, long), omega (arith, few, long));
             of_control = λ e. long ∙ one_of_control last.answer (sym last.word_is ∙ e);
           }
@@ -302,7 +301,7 @@ module _ {m to : Form} {text lent cells : List ℕ} {shown at place : ℕ} {buff
             reader = l.next;
             gl = then;
             shown_is = ap (λ (w : Wrote). w.shown) as_answer;
-            of_two_lem = two_again (locking to writer l.answer) p.gl p.of_two;
+            of_two = two_again (locking to writer l.answer) p.gl p.of_two;
             stands = l.has;
             passing = subst (λ (n : ℕ). Passing m to text lent l.next then (at + length bytes) n after) (sym l.ends)
                 (subst (λ (a : Answered). Passing m to text lent a.reader then (at + length bytes) (l.place + 1) after) l.answers

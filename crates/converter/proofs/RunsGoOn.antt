@@ -57,7 +57,7 @@ module _ {m to : Form} {text lent : List ℕ} {shown at place : ℕ} {buffer : L
     reader = p.reader;
     gl = p.gl;
     shown_is = p.shown_is;
-    of_two_lem = p.of_two;
+    of_two = p.of_two;
     stands = same_stands same p.stands;
     passing = p.passing;
   }
@@ -73,7 +73,7 @@ module _ {m to : Form} {text lent : List ℕ} {shown at place : ℕ} {buffer : L
         reader = p.reader;
         gl = p.gl;
         shown_is = p.shown_is;
-        of_two_lem = p.of_two;
+        of_two = p.of_two;
         stands = p.stands;
         passing = record {
           within = q.within;

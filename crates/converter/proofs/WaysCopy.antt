@@ -20,7 +20,6 @@ use Rattle.paper.specs.declared.Element.{Element}
 use Rattle.paper.specs.declared.Reader.{Reader}
 use Rattle.paper.proofs.Choices.{impossible, gives_by, in_bounds}
 use Rattle.charsets.specs.Sizes.{kind_of, is_one}
-use Rattle.escapes.specs.Effects.{plain}
 use Rattle.items.specs.States.{single_in, left_in, right_in, size_in, element_of, Stands}
 use Rattle.items.specs.Letters.{is_letter}
 use Rattle.items.proofs.ItemsOfBytes.{Letter, letter_is}
@@ -106,7 +105,7 @@ module _ (m to : Form) (cells text : List ℕ) (ground : single_in cells ≡ 0) 
     pub of_control : get_or text place 0 < space → copied_by way (get_or text place 0) ≡ get_or text place 0
     pub of_space : get_or text place 0 ≡ space → kind_of (size_in cells (left_in cells)) ≡ Of94 →
         space_in to shown cells (space ∷ []) ≡ alone (copied_by way (get_or text place 0) ∷ []) shown
-    pub of_character_lem : IsCharacter m cells text place →
+    pub of_character : IsCharacter m cells text place →
         character_in to shown (element_of cells (get_or text place 0)) (get_or text place 0 % bit8 ∷ []) ≡
         alone (copied_by way (get_or text place 0) ∷ []) shown
 
@@ -167,7 +166,7 @@ module _ (m to : Form) (cells text : List ℕ) (ground : single_in cells ≡ 0) 
               ⊎_elim (λ e. e) (λ never. absurd (never of_94)) signs ∙
               ap (λ (n : ℕ). alone (n ∷ []) shown)
               (sym (ap (copied_by way) same ∙ ⊎_elim (λ e. e) (λ never. absurd (never of_94)) spaces));
-          of_character_lem = λ c.
+          of_character = λ c.
               let e = shown_in_gl cells b low in
               let low_seven : b % bit8 ≡ b = omega arith in
               let k : kind_of (size_in cells (element_of cells b)) ≡ kind = ap (λ (x : ℕ). kind_of (size_in cells x)) e in
@@ -196,7 +195,7 @@ module _ (m to : Form) (cells text : List ℕ) (ground : single_in cells ≡ 0) 
             (λ h. omega (arith, lowest_plain (size_in cells (left_in cells)))));
         of_control = λ low. as_it_is way b (inl (omega (arith, limits)));
         of_space = λ is of_94. absurd (⊎_elim (λ w. omega (arith, w.0)) (λ w. omega (arith, w.0)) either);
-        of_character_lem = λ c.
+        of_character = λ c.
             ⊎_elim
             (λ w.
             let high : bit8 ≤ b = omega (arith, w.0) in

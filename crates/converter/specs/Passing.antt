@@ -56,6 +56,6 @@ pub record Passes (m to : Form) (text lent cells : List ℕ) (shown at place : �
   pub reader : Reader
   pub gl : Element
   pub shown_is : shown ≡ element_number gl
-  pub of_two_lem : OfTwo gl
+  pub of_two : OfTwo gl
   pub stands : Stands cells reader
   pub passing : Passing m to text lent reader gl at place buffer

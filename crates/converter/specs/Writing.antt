@@ -78,5 +78,5 @@ writes to shown cells x bytes =
 -- what an item's piece has, by its word
 pub record Writable (x : Effect) (p : Piece) : Type 0 where
   pub small : Small p
-  pub of_character_lem : x.word.0 ≡ char_word → (1 ≤ p.count) × (p.count ≤ 3)
+  pub of_character : x.word.0 ≡ char_word → (1 ≤ p.count) × (p.count ≤ 3)
   pub of_control : x.word.0 ≡ control_word → p.count ≡ 1

@@ -7,6 +7,7 @@ ghost use Rattle.items.specs.Pieces.{bytes_in};
 use items::piece::{FIFTH, FOURTH, Piece, SECOND, THIRD};
 
 // Writes a piece from a place of the buffer on.
+#[tactic(auto, unfolding(items::specs::Pieces::bytes_in))]
 fn put(buffer: &mut [u8], at: usize, piece: Piece)
     requires { (at + piece.count ≤ length buffer.old) × (piece.count ≤ 5) }
     ensures { buffer.new ≡ sets buffer.old at (bytes_in piece) }

@@ -93,6 +93,7 @@ fn high_lowered(kind: Kind) -> Way
 }
 
 // The way of a run, by the letter that it begins with.
+#[tactic(auto, using(paper::proofs::Tests::tests))]
 fn way_of(to: Form, state: &[u8; CELLS], byte: u8) -> Way
     ensures { result ≡ way_of to state.now byte }
 {
@@ -117,6 +118,7 @@ fn way_of(to: Form, state: &[u8; CELLS], byte: u8) -> Way
 }
 
 // With bit 8 changed where it is to be.
+#[tactic(auto, using(paper::proofs::Tests::tests), unfolding(crate::specs::Runs::copied_by))]
 fn copied(way: Way, byte: u8) -> u8
     ensures { result ≡ copied_by way byte }
 {
@@ -193,6 +195,7 @@ fn run_to(place: usize, at: usize) -> Run
 }
 
 // Whether SPACE in GL takes SI, and the letter of GR after it SO.
+#[tactic(auto, using(paper::proofs::Tests::tests))]
 fn gap_in_seven(state: &[u8; CELLS]) -> bool
     ensures { result ≡ gap_in_seven state.now }
 {
@@ -213,6 +216,7 @@ fn gap_in_seven(state: &[u8; CELLS]) -> bool
 }
 
 // Whether a space between words can be written with the shifts around it, for words that begin with this letter.
+#[tactic(auto, using(paper::proofs::Tests::tests))]
 fn has_gaps(to: Form, state: &[u8; CELLS], byte: u8) -> bool
     ensures { result ≡ has_gaps to state.now byte }
 {
@@ -335,6 +339,7 @@ pub(crate) fn copy_run(
 }
 
 // Whether a letter of an element is written in one byte.
+#[tactic(auto, using(paper::proofs::Tests::tests))]
 fn in_one_byte(to: Form, shown: ElementNumber, element: ElementNumber, byte: u8) -> bool
     ensures { result ≡ in_one_byte to shown.0 element.0 byte }
 {

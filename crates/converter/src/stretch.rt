@@ -29,6 +29,7 @@ pub(crate) enum Ending {
 }
 
 // At the end of the text: 7 after a single shift.
+#[tactic(auto, using(paper::proofs::Tests::tests))]
 fn at_the_end(taken: ElementNumber, at: usize, place: usize) -> Converted
     ensures { result ≡ at_the_end taken.0 at place }
 {

@@ -53,6 +53,7 @@ fn raised(bytes: u64) -> u64
 }
 
 // One, two or three position bytes as bytes of GR.
+#[tactic(auto, unfolding(items::specs::Pieces::bytes_in))]
 fn of_gr(piece: Piece) -> Piece
     requires { (1 ≤ piece.count) × (piece.count ≤ 3) }
     ensures { bytes_in result ≡ map (byte_from GraphicArea.GR) (bytes_in piece) }
@@ -76,6 +77,7 @@ fn of_gr(piece: Piece) -> Piece
 }
 
 // 7-bit: SI or SO first where GL shows another element.
+#[tactic(auto, using(paper::proofs::Tests::tests), unfolding(crate::specs::Writing::shifted_to))]
 fn shifted(shown: ElementNumber, element: u8, shift: u8, piece: Piece) -> Written
     requires { Small piece }
     ensures { wrote_of result ≡ shifted_to element shift shown.0 (bytes_in piece) }
@@ -88,6 +90,7 @@ fn shifted(shown: ElementNumber, element: u8, shift: u8, piece: Piece) -> Writte
 }
 
 // SS2 or SS3 always before a character of G2 or G3.
+#[tactic(auto, using(paper::proofs::Tests::tests), unfolding(crate::specs::Writing::in_seven))]
 fn in_seven(shown: ElementNumber, element: ElementNumber, piece: Piece) -> Written
     requires { Small piece }
     ensures { wrote_of result ≡ in_seven shown.0 element.0 (bytes_in piece) }
@@ -102,6 +105,7 @@ fn in_seven(shown: ElementNumber, element: ElementNumber, piece: Piece) -> Writt
 }
 
 // 8-bit: no locking shift.
+#[tactic(auto, using(paper::proofs::Tests::tests), unfolding(crate::specs::Writing::in_eight))]
 fn in_eight(shown: ElementNumber, element: ElementNumber, piece: Piece) -> Written
     requires { Small piece × (1 ≤ piece.count) × (piece.count ≤ 3) }
     ensures { wrote_of result ≡ in_eight shown.0 element.0 (bytes_in piece) }
@@ -146,6 +150,7 @@ fn write_space(to: Form, shown: ElementNumber, state: &[u8; CELLS], piece: Piece
 }
 
 // A control: a C1 function is ESC Fe in 7-bit form, its byte in 8-bit form.
+#[tactic(auto, using(paper::proofs::Tests::tests), unfolding(crate::specs::Writing::control_in))]
 fn write_control(to: Form, shown: ElementNumber, piece: Piece) -> Written
     requires { piece.count ≡ 1 }
     ensures { wrote_of result ≡ control_in to shown.0 (bytes_in piece) }
@@ -164,6 +169,7 @@ fn write_control(to: Form, shown: ElementNumber, piece: Piece) -> Written
 }
 
 // An item that does this and has these bytes, in a form, where GL shows an element in the output.
+#[tactic(auto, using(paper::proofs::Tests::tests), unfolding(crate::specs::Writing::writes))]
 pub(crate) fn write(
     to: Form,
     shown: ElementNumber,

@@ -4,14 +4,12 @@ use mathlib.Core.Path.{◌≡◌, ◌∙◌}
 use mathlib.Core.Bool.{false}
 use mathlib.Core.List.{List}
 use native.Mathlib.Omega.{arith}
-use borrow.Author.Rules.{rules}
 use borrow.Author.Tests.{le-leb, lt-leb, ne_eqb}
 use lib.ListN.{length, get_or}
 use Rattle.paper.specs.Choice.{between}
 use Rattle.paper.specs.Sets.{space}
 use Rattle.converter.specs.Runs.{space_ahead}
-use Rattle.converter.proofs.run.space_ahead.Statement.{statement}
-use Rattle.converter.proofs.run.space_ahead.Tie as tie
+use Rattle.converter.proofs.run.space_ahead.Goals as goal
 
 module _ (text : List ℕ) (place : ℕ) where
   too_few : length text < place + 2 → false ≡ space_ahead text place
@@ -26,19 +24,11 @@ module _ (text : List ℕ) (place : ℕ) where
   unfolding space_ahead
   by_letter h e = rw (le-leb (place + 2) (length text) h, e)
 
-pub space_ahead_spec : {M : Type 1} → statement M
-space_ahead_spec =
-    tie.close
-    (tie.spec
-    (λ c. search rules)
-    (λ c. too_few _ _ (omega arith))
-    (λ c. search rules)
-    (λ c. no_space _ _ (omega arith) c.if2.true)
-    (λ c. search rules)
-    (λ c. search rules)
-    (λ c. search rules)
-    (λ c. search rules)
-    (λ c. search rules)
-    (λ c. search rules)
-    (λ c κs. search rules)
-    (λ c. c.between.ensures ∙ by_letter _ _ (omega arith) c.before.before.if2.false))
+pub returns-then-text-place-lt2 : goal.returns-then-text-place-lt2
+returns-then-text-place-lt2 c = too_few _ _ (omega arith)
+
+pub returns-then-text-place-ne-SPACE : goal.returns-then-text-place-ne-SPACE
+returns-then-text-place-ne-SPACE c = no_space _ _ (omega arith) c.if-text-place-ne-SPACE.true
+
+pub returns : goal.returns
+returns c = c.between.ensures ∙ by_letter _ _ (omega arith) c.if-text-place-ne-SPACE.false

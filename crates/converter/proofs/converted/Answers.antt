@@ -1,0 +1,36 @@
+-- The four ways that `ConvertedByTwoPasses` tells apart.
+use mathlib.Core.Path.{sym, ◌∙◌}
+use native.Mathlib.Omega.{arith}
+use Rattle.converter.proofs.ConvertedByTwoPasses.{too_long, refused_at, no_room, written}
+use Rattle.converter.proofs.converted.Goals as goal
+
+pub returns-then-text-gt-LONGEST_TEXT : goal.returns-then-text-gt-LONGEST_TEXT
+returns-then-text-gt-LONGEST_TEXT c =
+    let s = c.args in
+    let both = too_long s.form s.to s.text.now s.buffer.now c.if-text-gt-LONGEST_TEXT.true in
+    record { value = both.0; buffer_after = both.1 }
+
+pub returns-in-Refused : goal.returns-in-Refused
+returns-in-Refused c =
+    let s = c.args in
+    let both =
+    refused_at s.form s.to s.text.now s.buffer.now c.if-text-gt-LONGEST_TEXT.false _ _
+    (sym c.in-Refused.is ∙ c.pass.ensures.value) in
+    record { value = both.0; buffer_after = both.1 }
+
+pub returns-then-length-buffer : goal.returns-then-length-buffer
+returns-then-length-buffer c =
+    let s = c.args in
+    let second = c.pass-then-length-buffer in
+    let both =
+    written s.form s.to s.text.now s.buffer.now c.if-text-gt-LONGEST_TEXT.false _ (sym c.in-Done.is ∙ c.pass.ensures.value)
+    (omega arith) _ _ second.ensures.value second.ensures.buffer_after in
+    record { value = both.0; buffer_after = both.1 }
+
+pub returns-else-length-buffer : goal.returns-else-length-buffer
+returns-else-length-buffer c =
+    let s = c.args in
+    let both =
+    no_room s.form s.to s.text.now s.buffer.now c.if-text-gt-LONGEST_TEXT.false _ (sym c.in-Done.is ∙ c.pass.ensures.value)
+    (omega arith) in
+    record { value = both.0; buffer_after = both.1 }

@@ -1,7 +1,0 @@
--- It is `converted` to that form.
-use borrow.Author.Rules.{rules}
-use Rattle.converter.proofs.to_eight.Statement.{statement}
-use Rattle.converter.proofs.to_eight.Tie as tie
-
-pub to_eight_spec : {M : Type 1} → statement M
-to_eight_spec = tie.close (tie.spec (λ c κs. search rules) (λ c. search rules) (λ c. c.before.before.converted.ensures))
