@@ -48,6 +48,7 @@ fn cheapest(costs: Four) -> Best
 }
 
 // Whether bytes at a place in byte order come before a shift.
+#[tactic(auto, using(paper::proofs::Tests::tests), unfolding(crate::specs::Choices::is_before))]
 fn is_before(place: u8, element: u8) -> bool
     ensures { result ≡ is_before place element }
 {
@@ -59,6 +60,7 @@ fn is_before(place: u8, element: u8) -> bool
 }
 
 // The element that GL is to show.
+#[tactic(auto, using(paper::proofs::Tests::tests), unfolding(crate::specs::Choices::chosen_by))]
 fn chosen(cost: usize, best: Best, place: u8, shown: u8) -> u8
     ensures { result ≡ chosen_by cost best.cost best.element place shown }
 {

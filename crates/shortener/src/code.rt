@@ -35,6 +35,7 @@ pub(crate) const MIDDLE: u8 = 1;
 
 pub(crate) const LAST: u8 = 2;
 
+#[tactic(auto, using(paper::proofs::Tests::tests), unfolding(crate::specs::Codes::character_cost))]
 fn character_cost(own: u8, shown: u8, count: u8) -> usize
     ensures { result ≡ character_cost own shown count }
 {
@@ -47,6 +48,7 @@ fn character_cost(own: u8, shown: u8, count: u8) -> usize
     count as usize + SINGLE_SHIFT
 }
 
+#[tactic(auto, using(paper::proofs::Tests::tests), unfolding(crate::specs::Codes::space_or_delete_cost))]
 fn space_or_delete_cost(bit: u8) -> usize
     ensures { result ≡ space_or_delete_cost bit }
 {
@@ -84,6 +86,7 @@ pub(crate) fn costs_by(code: u8) -> Four
 }
 
 // Where its bytes stand in byte order.
+#[tactic(auto, using(paper::proofs::Tests::tests), unfolding(crate::specs::Codes::place_by))]
 pub(crate) fn place_by(code: u8, shown: u8) -> u8
     ensures { result ≡ place_by code shown }
 {
@@ -104,6 +107,7 @@ pub(crate) fn place_by(code: u8, shown: u8) -> u8
 }
 
 // The place of an element from G0 on.
+#[tactic(auto, using(paper::proofs::Tests::tests), unfolding(crate::specs::Fours::index_at))]
 pub(crate) fn index_of(element: ElementNumber) -> u8
     ensures { result ≡ index_at element.0 }
 {
@@ -142,6 +146,7 @@ pub(crate) fn code_of_space_or_delete(state: &[u8; CELLS]) -> u8
         + 8 * bit_of(state, G3)
 }
 
+#[tactic(auto, unfolding(crate::specs::Codes::alike_code))]
 pub(crate) fn code_alike(place: u8, count: usize) -> u8
     requires { (place ≤ 2) × (count ≤ 14) }
     ensures { result ≡ alike_code place count }

@@ -26,6 +26,7 @@ pub(crate) const ONE_BYTE: usize = 1;
 
 pub(crate) const TWO_BYTES: usize = 2;
 
+#[tactic(auto, using(paper::proofs::Tests::tests), unfolding(crate::specs::Fours::lower))]
 pub(crate) fn lower(first: usize, second: usize) -> usize
     ensures { result ≡ fours.lower first second }
 {

@@ -47,6 +47,7 @@ fn put_piece(buffer: &mut [u8], at: usize, piece: Piece)
 }
 
 // What was chosen where GL shows an element.
+#[tactic(auto, using(paper::proofs::Tests::tests), unfolding(crate::specs::Choices::choice_in))]
 fn choice(choices: u8, shown: u8) -> u8
     ensures { result ≡ choice_in choices shown }
 {

@@ -64,6 +64,7 @@ fn alike(effect: Effect, piece: Piece) -> Piece
 }
 
 // A character of an element while GL shows another, or the same.
+#[tactic(auto, using(paper::proofs::Tests::tests), unfolding(crate::specs::Under::character_under))]
 fn character_under(shown: u8, own: u8, piece: Piece) -> Piece
     requires { Small piece × (piece.count ≤ 3) }
     ensures { (bytes_in result ≡ character_under shown own (bytes_in piece)) × Room 5 0x1000000000000 result }
@@ -104,6 +105,7 @@ fn rank_of(piece: Piece) -> u64
 }
 
 // Its place in byte order.
+#[tactic(auto, using(paper::proofs::Tests::tests), unfolding(crate::specs::Codes::place_of_rank))]
 fn place_of(rank: u64) -> u8
     ensures { (result ≡ place_of_rank rank) × (result ≤ 2) }
 {
@@ -124,6 +126,7 @@ fn code_alike_of(effect: Effect, piece: Piece) -> u8
     code_alike(place_of(rank_of(written)), written.count)
 }
 
+#[tactic(auto, using(paper::proofs::Tests::tests), unfolding(crate::specs::Under::code_by))]
 pub(crate) fn code_of(state: &[u8; CELLS], effect: Effect, piece: Piece) -> u8
     requires { Fit effect piece }
     ensures { result ≡ code_by state.now effect (bytes_in piece) }

@@ -1,0 +1,44 @@
+-- The tests in their order, and then what the passes give.
+use mathlib.Core.Path.{refl, sym, ◌∙◌}
+use native.Mathlib.Omega.{arith}
+use Rattle.shortener.proofs.ShortenedByPasses.{too_long, work_short, text_refused, no_room, all_written}
+use Rattle.shortener.proofs.shortest.Goals as goal
+
+pub returns-then-text-gt-LONGEST_INPUT : goal.returns-then-text-gt-LONGEST_INPUT
+returns-then-text-gt-LONGEST_INPUT c =
+    let a = c.args in
+    let all =
+    too_long a.form a.text.now a.buffer.now a.work.now c.if-text-gt-LONGEST_INPUT.true in
+    record { value = all.0; buffer_after = all.1.0; work_after = all.1.1 }
+
+pub returns-then-work-lt-LEAST_WORK : goal.returns-then-work-lt-LEAST_WORK
+returns-then-work-lt-LEAST_WORK c =
+    let a = c.args in
+    let all =
+    work_short a.form a.text.now a.buffer.now a.work.now c.if-text-gt-LONGEST_INPUT.false c.if-work-lt-LEAST_WORK.true in
+    record { value = all.0; buffer_after = all.1.0; work_after = all.1.1 }
+
+pub returns-then-length-buffer : goal.returns-then-length-buffer
+returns-then-length-buffer c =
+    let a = c.args in
+    let all =
+    all_written a.form a.text.now a.buffer.now a.work.now c.if-text-gt-LONGEST_INPUT.false c.if-work-lt-LEAST_WORK.false
+    (sym c.in-Never.is ∙ c.refusal_in.ensures) _ (c.weigh-weighed.ensures.length_value refl) (omega (arith, c.if-length-buffer.true)) _ _
+    c.write.ensures.buffer_after c.write.ensures.work_after in
+    record { value = all.0; buffer_after = all.1.0; work_after = all.1.1 }
+
+pub returns-in-First : goal.returns-in-First
+returns-in-First c =
+    let a = c.args in
+    let all =
+    text_refused a.form a.text.now a.buffer.now a.work.now c.if-text-gt-LONGEST_INPUT.false c.if-work-lt-LEAST_WORK.false _ _
+    (sym c.in-First.is ∙ c.refusal_in.ensures) in
+    record { value = all.0; buffer_after = all.1.0; work_after = all.1.1 }
+
+pub returns-else-length-buffer : goal.returns-else-length-buffer
+returns-else-length-buffer c =
+    let a = c.args in
+    let all =
+    no_room a.form a.text.now a.buffer.now a.work.now c.if-text-gt-LONGEST_INPUT.false c.if-work-lt-LEAST_WORK.false
+    (sym c.in-Never.is ∙ c.refusal_in.ensures) _ (c.weigh-weighed.ensures.length_value refl) c.if-length-buffer.false in
+    record { value = all.0; buffer_after = all.1.0; work_after = all.1.1 }
