@@ -2,9 +2,13 @@
 // output has the converted bytes and nothing else; a refusal, and arguments that are no form, are said on standard error.
 #![tactic(auto)]
 
-use libc::{STDERR_FILENO, STDIN_FILENO, STDOUT_FILENO};
+ghost use Rattle.std.specs.Prelude.{◌≤◌, IfOk, length};
+
 use paper::{Converted, Form, Refusal};
 use refusals::LONGEST_TEXT;
+use std::env::{Env, FillError};
+use std::io;
+use std::io::Read;
 
 // A text may have 65,536 bytes; one byte more shows that it is longer.
 const ROOM: usize = LONGEST_TEXT + 1;
@@ -20,22 +24,23 @@ enum Chosen {
 }
 
 // The first bytes of a buffer, as many as a call says that it wrote: never more than there are.
-fn print_start(buffer: &[u8], length: usize) {
+fn print_start(rt: &impl Print, buffer: &[u8], length: usize) -> io::Result<()> {
     if length <= buffer.len() {
-        io::write_all(STDOUT_FILENO, &buffer[..length]);
+        rt.write_all(&buffer[..length])?;
     }
+    Ok(())
 }
 
-fn complain_number(number: usize) {
-    io::print_decimal(STDERR_FILENO, number as u64);
+fn complain_number(rt: &impl Eprint, number: usize) -> io::Result<()> {
+    rt.eprint(number)
 }
 
-fn complain(refusal: Refusal, place: usize) {
-    io::write_all(STDERR_FILENO, b"refused ");
-    complain_number(refusals::number_of(refusal));
-    io::write_all(STDERR_FILENO, b" at ");
-    complain_number(place);
-    io::write_all(STDERR_FILENO, b"\n");
+fn complain(rt: &impl Eprint, refusal: Refusal, place: usize) -> io::Result<()> {
+    rt.eprint("refused ")?;
+    complain_number(rt, refusals::number_of(refusal))?;
+    rt.eprint(" at ")?;
+    complain_number(rt, place)?;
+    rt.eprint("\n")
 }
 
 // The form is that of the output; a text is in the other one.
@@ -46,36 +51,62 @@ fn convert(form: Form, text: &[u8], buffer: &mut [u8]) -> Converted {
     }
 }
 
-fn print_converted(form: Form, text: &[u8]) {
+fn print_converted(rt: &(impl Print + Eprint), form: Form, text: &[u8]) -> io::Result<()> {
     let mut room = [0u8; LONGEST_OUTPUT];
     let buffer: &mut [u8] = &mut room;
     match convert(form, text, buffer) {
-        Converted::Done(length) => print_start(buffer, length),
-        Converted::Refused(refusal, place) => complain(refusal, place),
+        Converted::Done(length) => print_start(rt, buffer, length),
+        Converted::Refused(refusal, place) => complain(rt, refusal, place),
     }
 }
 
-// A read that fails looks like the end of the text; another one tells them apart.
-fn ended() -> bool {
-    let mut byte = [0u8; 1];
-    libc::read(STDIN_FILENO, &mut byte) == 0
+// Reads until the buffer is full or the input ends, and answers how many bytes it put there; a read that fails is an error.
+fn read_full(rt: &impl Input, buffer: &mut [u8]) -> io::Result<usize>
+    ensures { IfOk result (λ count. count ≤ length buffer.new) }
+{
+    let mut input = rt.reader();
+    let mut done = 0;
+    while done < buffer.len() {
+        let count = input.read(&mut buffer[done..])?;
+        if count == 0 {
+            break;
+        }
+        done += count;
+    }
+    Ok(done)
 }
 
-fn convert_input(form: Form) {
+fn convert_input(rt: &(impl Print + Eprint + Input), form: Form) -> io::Result<()> {
     let mut text = [0u8; ROOM];
-    let length = io::read_full(STDIN_FILENO, &mut text);
-    if length < ROOM && !ended() {
-        io::write_all(STDERR_FILENO, b"convert: standard input cannot be read\n");
-        return;
+    let Ok(length) = read_full(rt, &mut text) else {
+        return rt.eprint("convert: standard input cannot be read\n");
+    };
+    print_converted(rt, form, &text[..length])
+}
+
+// Puts an argument at the start of the buffer and answers its length, or 0 where there is none or it is longer than the buffer.
+fn argument(rt: &impl Env, index: usize, buffer: &mut [u8]) -> usize
+    ensures { result ≤ length buffer.new }
+{
+    match rt.arg(index, buffer) {
+        Ok(length) => length,
+        Err(_) => 0,
     }
-    print_converted(form, &text[..length]);
+}
+
+// Whether there is an argument of this number; the program's own name is that of 0.
+fn is_given(rt: &impl Env, index: usize) -> bool {
+    match rt.arg(index, &mut []) {
+        Err(FillError::NotPresent) => false,
+        _ => true,
+    }
 }
 
 // The one argument 7 or 8.
-fn choose() -> Chosen {
+fn choose(rt: &impl Env) -> Chosen {
     let mut word = [0u8; 1];
-    let length = os::arg(1, &mut word);
-    if os::arg_count() != 2 || length != 1 {
+    let length = argument(rt, 1, &mut word);
+    if is_given(rt, 2) || length != 1 {
         return Chosen::Unknown;
     }
     match word[0] {
@@ -85,14 +116,11 @@ fn choose() -> Chosen {
     }
 }
 
-fn main() {
-    match choose() {
-        Chosen::Writing(form) => convert_input(form),
+fn main(rt: HostRuntime) -> io::Result<()> {
+    match choose(&rt) {
+        Chosen::Writing(form) => convert_input(&rt, form),
         Chosen::Unknown => {
-            io::write_all(
-                STDERR_FILENO,
-                b"convert: one argument, 7 for the 7-bit form or 8 for the 8-bit form\n",
-            );
+            rt.eprint("convert: one argument, 7 for the 7-bit form or 8 for the 8-bit form\n")
         }
     }
 }

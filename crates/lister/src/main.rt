@@ -2,9 +2,13 @@
 // text is in 8-bit form, with the argument 7 in 7-bit form.
 #![tactic(auto)]
 
-use libc::{STDERR_FILENO, STDIN_FILENO, STDOUT_FILENO};
+ghost use Rattle.std.specs.Prelude.{◌≤◌, IfOk, length};
+
 use paper::{Answer, Converted, Form, Listed, Reader, Refusal};
 use refusals::LONGEST_TEXT;
+use std::env::{Env, FillError};
+use std::io;
+use std::io::Read;
 
 // A text may have 65,536 bytes; one byte more shows that it is longer.
 const ROOM: usize = LONGEST_TEXT + 1;
@@ -29,96 +33,116 @@ enum Left {
 }
 
 // The first bytes of a buffer, as many as a call says that it wrote: never more than there are.
-fn print_start(buffer: &[u8], length: usize) {
+fn print_start(rt: &impl Print, buffer: &[u8], length: usize) -> io::Result<()> {
     if length <= buffer.len() {
-        io::write_all(STDOUT_FILENO, &buffer[..length]);
+        rt.write_all(&buffer[..length])?;
     }
+    Ok(())
 }
 
 // The one line of a text that is refused as a whole.
-fn print_refusal(refusal: Refusal) {
+fn print_refusal(rt: &impl Print, refusal: Refusal) -> io::Result<()> {
     let mut line = [0u8; LINE];
     match listing::line_of(0, Answer::Refused(refusal), &mut line) {
-        Converted::Done(length) => {
-            print_start(&line, length);
-        }
-        Converted::Refused(_, _) => {}
+        Converted::Done(length) => print_start(rt, &line, length),
+        Converted::Refused(_, _) => Ok(()),
     }
 }
 
-fn print_piece(text: &[u8], offset: usize, reader: Reader) -> Left {
+fn print_piece(rt: &impl Print, text: &[u8], offset: usize, reader: Reader) -> io::Result<Left> {
     let mut piece = [0u8; PIECE];
     match listing::list(text, offset, reader, &mut piece) {
         Listed::Done(length) => {
-            print_start(&piece, length);
-            Left::Nothing
+            print_start(rt, &piece, length)?;
+            Ok(Left::Nothing)
         }
         Listed::More(length, at, next) => {
-            print_start(&piece, length);
-            Left::From(at, next)
+            print_start(rt, &piece, length)?;
+            Ok(Left::From(at, next))
         }
         Listed::Refused(refusal) => {
-            print_refusal(refusal);
-            Left::Nothing
+            print_refusal(rt, refusal)?;
+            Ok(Left::Nothing)
         }
     }
 }
 
 // Each piece but the last has a line, so there are no more pieces than answers.
-fn print_listing(text: &[u8], form: Form) {
+fn print_listing(rt: &impl Print, text: &[u8], form: Form) -> io::Result<()> {
     let mut offset = 0;
     let mut reader = reader::start(form);
     let mut turns = text.len() + 1;
     while turns > 0 {
-        match print_piece(text, offset, reader) {
+        match print_piece(rt, text, offset, reader)? {
             Left::From(at, next) => {
                 offset = at;
                 reader = next;
             }
-            Left::Nothing => return,
+            Left::Nothing => return Ok(()),
         }
         turns -= 1;
     }
+    Ok(())
 }
 
-// A read that fails looks like the end of the text; another one tells them apart.
-fn ended() -> bool {
-    let mut byte = [0u8; 1];
-    libc::read(STDIN_FILENO, &mut byte) == 0
-}
-
-fn list_input(form: Form) {
-    let mut text = [0u8; ROOM];
-    let length = io::read_full(STDIN_FILENO, &mut text);
-    if length < ROOM && !ended() {
-        io::write_all(STDERR_FILENO, b"lister: standard input cannot be read\n");
-        return;
+// Reads until the buffer is full or the input ends, and answers how many bytes it put there; a read that fails is an error.
+fn read_full(rt: &impl Input, buffer: &mut [u8]) -> io::Result<usize>
+    ensures { IfOk result (λ count. count ≤ length buffer.new) }
+{
+    let mut input = rt.reader();
+    let mut done = 0;
+    while done < buffer.len() {
+        let count = input.read(&mut buffer[done..])?;
+        if count == 0 {
+            break;
+        }
+        done += count;
     }
-    print_listing(&text[..length], form);
+    Ok(done)
+}
+
+fn list_input(rt: &(impl Print + Eprint + Input), form: Form) -> io::Result<()> {
+    let mut text = [0u8; ROOM];
+    let Ok(length) = read_full(rt, &mut text) else {
+        return rt.eprint("lister: standard input cannot be read\n");
+    };
+    print_listing(rt, &text[..length], form)
+}
+
+// Puts an argument at the start of the buffer and answers its length, or 0 where there is none or it is longer than the buffer.
+fn argument(rt: &impl Env, index: usize, buffer: &mut [u8]) -> usize
+    ensures { result ≤ length buffer.new }
+{
+    match rt.arg(index, buffer) {
+        Ok(length) => length,
+        Err(_) => 0,
+    }
+}
+
+// Whether there is an argument of this number; the program's own name is that of 0.
+fn is_given(rt: &impl Env, index: usize) -> bool {
+    match rt.arg(index, &mut []) {
+        Err(FillError::NotPresent) => false,
+        _ => true,
+    }
 }
 
 // No argument is 8-bit form, the one argument 7 is 7-bit form.
-fn choose() -> Chosen {
-    let count = os::arg_count();
-    if count <= 1 {
+fn choose(rt: &impl Env) -> Chosen {
+    if !is_given(rt, 1) {
         return Chosen::Reading(Form::Eight);
     }
     let mut word = [0u8; 1];
-    let length = os::arg(1, &mut word);
-    if count == 2 && length == 1 && word[0] == b'7' {
+    let length = argument(rt, 1, &mut word);
+    if !is_given(rt, 2) && length == 1 && word[0] == b'7' {
         return Chosen::Reading(Form::Seven);
     }
     Chosen::Unknown
 }
 
-fn main() {
-    match choose() {
-        Chosen::Reading(form) => list_input(form),
-        Chosen::Unknown => {
-            io::write_all(
-                STDERR_FILENO,
-                b"lister: no argument, or 7 for a text in 7-bit form\n",
-            );
-        }
+fn main(rt: HostRuntime) -> io::Result<()> {
+    match choose(&rt) {
+        Chosen::Reading(form) => list_input(&rt, form),
+        Chosen::Unknown => rt.eprint("lister: no argument, or 7 for a text in 7-bit form\n"),
     }
 }

@@ -3,16 +3,18 @@
 // SPACE, DELETE and control of the text: its Unicode number.
 #![tactic(auto)]
 
-ghost use Rattle.std.specs.Prelude.{◌≡◌, true};
+ghost use Rattle.std.specs.Prelude.{◌≡◌, ◌≤◌, IfOk, length, true};
 
 use charsets::{DELETE, SPACE, bytes_of, size_of};
 use codetable::position_of;
-use libc::{STDERR_FILENO, STDIN_FILENO, STDOUT_FILENO};
 use paper::{
     Answer, ControlElement, Converted, Count, Form, Located, Numbered, Position, PositionBytes,
     Refusal, Set,
 };
 use refusals::LONGEST_TEXT;
+use std::env::{Env, FillError};
+use std::io;
+use std::io::Read;
 use std::num::{wrapping_add_u32, wrapping_add_usize};
 
 // A text may have 65,536 bytes; one byte more shows that it is longer.
@@ -55,25 +57,25 @@ enum Line {
     Nothing,
 }
 
-fn print(text: &[u8]) {
-    io::write_all(STDOUT_FILENO, text);
+fn print(rt: &impl Print, text: &[u8]) -> io::Result<()> {
+    rt.write_all(text)
 }
 
-fn print_number(number: usize) {
-    io::print_decimal(STDOUT_FILENO, number as u64);
+fn print_number(rt: &impl Print, number: usize) -> io::Result<()> {
+    rt.print(number)
 }
 
 // A word and a count.
-fn print_figure(word: &[u8], count: usize) {
-    print(word);
-    print_number(count);
-    print(b"\n");
+fn print_figure(rt: &impl Print, word: &[u8], count: usize) -> io::Result<()> {
+    print(rt, word)?;
+    print_number(rt, count)?;
+    print(rt, b"\n")
 }
 
-fn print_refusal(refusal: Refusal, place: usize) {
-    print(b"refused ");
-    print_number(refusals::number_of(refusal));
-    print_figure(b" at ", place);
+fn print_refusal(rt: &impl Print, refusal: Refusal, place: usize) -> io::Result<()> {
+    print(rt, b"refused ")?;
+    print_number(rt, refusals::number_of(refusal))?;
+    print_figure(rt, b" at ", place)
 }
 
 // The first bytes of a buffer, as many as a call says that it wrote: never more than there are.
@@ -199,15 +201,16 @@ fn tally_of(text: &[u8]) -> Tally {
     tally
 }
 
-fn print_tally(tally: Tally) {
-    print_figure(b"mapped ", tally.mapped);
-    print_figure(b"without number ", tally.without_number);
-    print_figure(b"spaces ", tally.spaces);
-    print_figure(b"deletes ", tally.deletes);
-    print_figure(b"controls ", tally.controls);
+fn print_tally(rt: &impl Print, tally: Tally) -> io::Result<()> {
+    print_figure(rt, b"mapped ", tally.mapped)?;
+    print_figure(rt, b"without number ", tally.without_number)?;
+    print_figure(rt, b"spaces ", tally.spaces)?;
+    print_figure(rt, b"deletes ", tally.deletes)?;
+    print_figure(rt, b"controls ", tally.controls)?;
     if tally.not_back > 0 {
-        print_figure(b"not back ", tally.not_back);
+        print_figure(rt, b"not back ", tally.not_back)?;
     }
+    Ok(())
 }
 
 // That two texts which differ are never called the same is proved here.
@@ -239,30 +242,30 @@ fn first_difference(one: &[u8], other: &[u8]) -> usize {
     offset
 }
 
-fn print_comparison(text: &[u8], back: &[u8]) {
+fn print_comparison(rt: &impl Print, text: &[u8], back: &[u8]) -> io::Result<()> {
     if same_bytes(text, back) {
-        print(b"equal\n");
+        print(rt, b"equal\n")
     } else {
-        print_figure(b"differs at ", first_difference(text, back));
+        print_figure(rt, b"differs at ", first_difference(text, back))
     }
 }
 
-fn print_back(text: &[u8], back: &[u8]) {
-    print_figure(b"eight ", back.len());
-    print_tally(tally_of(text));
-    print_comparison(text, back);
+fn print_back(rt: &impl Print, text: &[u8], back: &[u8]) -> io::Result<()> {
+    print_figure(rt, b"eight ", back.len())?;
+    print_tally(rt, tally_of(text))?;
+    print_comparison(rt, text, back)
 }
 
-fn compare_back(text: &[u8], seven: &[u8]) {
+fn compare_back(rt: &impl Print, text: &[u8], seven: &[u8]) -> io::Result<()> {
     let mut room = [0u8; LONGEST_OUTPUT];
     let eight: &mut [u8] = &mut room;
-    print_figure(b"text ", text.len());
-    print_figure(b"seven ", seven.len());
+    print_figure(rt, b"text ", text.len())?;
+    print_figure(rt, b"seven ", seven.len())?;
     match converter::to_eight(seven, eight) {
-        Converted::Done(length) => print_back(text, start_of(eight, length)),
+        Converted::Done(length) => print_back(rt, text, start_of(eight, length)),
         Converted::Refused(refusal, place) => {
-            print(b"back ");
-            print_refusal(refusal, place);
+            print(rt, b"back ")?;
+            print_refusal(rt, refusal, place)
         }
     }
 }
@@ -343,7 +346,7 @@ fn put_line(lines: &mut [u8], at: usize, line: Line) -> usize {
 }
 
 // All lines at once, since a write for each would take most of the time.
-fn print_numbers(text: &[u8]) {
+fn print_numbers(rt: &impl Print, text: &[u8]) -> io::Result<()> {
     let mut room = [0u8; LINES];
     let lines: &mut [u8] = &mut room;
     let mut at = 0;
@@ -356,64 +359,84 @@ fn print_numbers(text: &[u8]) {
         reader = given.reader;
         offset += 1;
     }
-    print(start_of(lines, at));
+    print(rt, start_of(lines, at))
 }
 
 // The way there refuses what the reading refuses, and a text that is too long: the numbers have no refusals of their own.
-fn go_there(text: &[u8], comparing: bool) {
+fn go_there(rt: &impl Print, text: &[u8], comparing: bool) -> io::Result<()> {
     let mut room = [0u8; LONGEST_OUTPUT];
     let seven: &mut [u8] = &mut room;
     match converter::to_seven(text, seven) {
         Converted::Done(length) => {
             if comparing {
-                compare_back(text, start_of(seven, length));
+                compare_back(rt, text, start_of(seven, length))
             } else {
-                print_numbers(text);
+                print_numbers(rt, text)
             }
         }
-        Converted::Refused(refusal, place) => print_refusal(refusal, place),
+        Converted::Refused(refusal, place) => print_refusal(rt, refusal, place),
     }
 }
 
-// A read that fails looks like the end of the text; another one tells them apart.
-fn ended() -> bool {
-    let mut byte = [0u8; 1];
-    libc::read(STDIN_FILENO, &mut byte) == 0
+// Reads until the buffer is full or the input ends, and answers how many bytes it put there; a read that fails is an error.
+fn read_full(rt: &impl Input, buffer: &mut [u8]) -> io::Result<usize>
+    ensures { IfOk result (λ count. count ≤ length buffer.new) }
+{
+    let mut input = rt.reader();
+    let mut done = 0;
+    while done < buffer.len() {
+        let count = input.read(&mut buffer[done..])?;
+        if count == 0 {
+            break;
+        }
+        done += count;
+    }
+    Ok(done)
 }
 
-fn read_input(comparing: bool) {
+fn read_input(rt: &(impl Print + Eprint + Input), comparing: bool) -> io::Result<()> {
     let mut text = [0u8; ROOM];
-    let length = io::read_full(STDIN_FILENO, &mut text);
-    if length < ROOM && !ended() {
-        io::write_all(STDERR_FILENO, b"roundtrip: standard input cannot be read\n");
-        return;
+    let Ok(length) = read_full(rt, &mut text) else {
+        return rt.eprint("roundtrip: standard input cannot be read\n");
+    };
+    go_there(rt, &text[..length], comparing)
+}
+
+// Puts an argument at the start of the buffer and answers its length, or 0 where there is none or it is longer than the buffer.
+fn argument(rt: &impl Env, index: usize, buffer: &mut [u8]) -> usize
+    ensures { result ≤ length buffer.new }
+{
+    match rt.arg(index, buffer) {
+        Ok(length) => length,
+        Err(_) => 0,
     }
-    go_there(&text[..length], comparing);
+}
+
+// Whether there is an argument of this number; the program's own name is that of 0.
+fn is_given(rt: &impl Env, index: usize) -> bool {
+    match rt.arg(index, &mut []) {
+        Err(FillError::NotPresent) => false,
+        _ => true,
+    }
 }
 
 // No argument compares, the one argument numbers prints the numbers.
-fn choose() -> Chosen {
-    let count = os::arg_count();
-    if count <= 1 {
+fn choose(rt: &impl Env) -> Chosen {
+    if !is_given(rt, 1) {
         return Chosen::Comparing;
     }
     let mut word = [0u8; 7];
-    let length = os::arg(1, &mut word);
-    if count == 2 && same_bytes(&word[..length], b"numbers") {
+    let length = argument(rt, 1, &mut word);
+    if !is_given(rt, 2) && same_bytes(&word[..length], b"numbers") {
         return Chosen::Numbers;
     }
     Chosen::Unknown
 }
 
-fn main() {
-    match choose() {
-        Chosen::Comparing => read_input(true),
-        Chosen::Numbers => read_input(false),
-        Chosen::Unknown => {
-            io::write_all(
-                STDERR_FILENO,
-                b"roundtrip: no argument, or the word numbers\n",
-            );
-        }
+fn main(rt: HostRuntime) -> io::Result<()> {
+    match choose(&rt) {
+        Chosen::Comparing => read_input(&rt, true),
+        Chosen::Numbers => read_input(&rt, false),
+        Chosen::Unknown => rt.eprint("roundtrip: no argument, or the word numbers\n"),
     }
 }
