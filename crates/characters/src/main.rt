@@ -8,72 +8,71 @@
 #![tactic(auto)]
 
 use paper::{Column, Count, Kind, Located, Numbered, Row, Set};
+use std::io;
 use std::num::wrapping_add_u32;
 
 // Columns and rows are asked up to this number, past the last that there is.
 const PAST: u8 = 20;
 
 // A number after a space.
-fn print_hex(number: u32, width: usize) {
-    io::write_all(1, b" ");
-    io::print_hex(1, number as u64, width);
+fn print_hex(rt: &impl Print, number: u32, width: usize) -> io::Result<()> {
+    print!(rt; " {number:0width$x}")
 }
 
-fn print_decimal(value: u32) {
-    io::write_all(1, b" ");
-    io::print_decimal(1, value as u64);
+fn print_decimal(rt: &impl Print, value: u32) -> io::Result<()> {
+    print!(rt; " {value}")
 }
 
-fn print_set(set: Set) {
+fn print_set(rt: &impl Print, set: Set) -> io::Result<()> {
     let kind = set.kind;
     let count = set.count;
-    io::print_decimal(1, charsets::size_of(kind) as u64);
-    print_decimal(charsets::bytes_of(count) as u32);
-    print_hex(set.last as u32, 2);
+    rt.print(charsets::size_of(kind))?;
+    print_decimal(rt, charsets::bytes_of(count) as u32)?;
+    print_hex(rt, set.last as u32, 2)
 }
 
-fn print_position(column: Column, row: Row) {
-    print_decimal(column.0 as u32);
-    print_decimal(row.0 as u32);
+fn print_position(rt: &impl Print, column: Column, row: Row) -> io::Result<()> {
+    print_decimal(rt, column.0 as u32)?;
+    print_decimal(rt, row.0 as u32)
 }
 
-fn there(set: Set, count: Count, column: Column, row: Row) {
+fn there(rt: &impl Print, set: Set, count: Count, column: Column, row: Row) -> io::Result<()> {
     match unicode_numbers::unicode_of(set, count, column, row) {
         Numbered::Number(number) => {
-            print_set(set);
-            print_position(column, row);
-            print_hex(number, 4);
-            io::write_all(1, b"\n");
+            print_set(rt, set)?;
+            print_position(rt, column, row)?;
+            print_hex(rt, number, 4)?;
+            rt.write_all(b"\n")
         }
-        Numbered::NoNumber => {}
+        Numbered::NoNumber => Ok(()),
     }
 }
 
-fn rows(set: Set, count: Count, column: Column) -> u32 {
+fn rows(rt: &impl Print, set: Set, count: Count, column: Column) -> io::Result<u32> {
     let mut asked: u32 = 0;
     for row in 0u8..PAST {
-        there(set, count, column, Row(row));
+        there(rt, set, count, column, Row(row))?;
         asked = wrapping_add_u32(asked, 1);
     }
-    asked
+    Ok(asked)
 }
 
-fn columns(set: Set, count: Count) -> u32 {
+fn columns(rt: &impl Print, set: Set, count: Count) -> io::Result<u32> {
     let mut asked: u32 = 0;
     for column in 0u8..PAST {
-        asked = wrapping_add_u32(asked, rows(set, count, Column(column)));
+        asked = wrapping_add_u32(asked, rows(rt, set, count, Column(column))?);
     }
-    asked
+    Ok(asked)
 }
 
-fn position_bytes(set: Set) -> u32 {
-    let one = columns(set, Count::One);
-    let two = columns(set, Count::Two);
-    let three = columns(set, Count::Three);
-    wrapping_add_u32(one, wrapping_add_u32(two, three))
+fn position_bytes(rt: &impl Print, set: Set) -> io::Result<u32> {
+    let one = columns(rt, set, Count::One)?;
+    let two = columns(rt, set, Count::Two)?;
+    let three = columns(rt, set, Count::Three)?;
+    Ok(wrapping_add_u32(one, wrapping_add_u32(two, three)))
 }
 
-fn final_bytes(kind: Kind, count: Count) -> u32 {
+fn final_bytes(rt: &impl Print, kind: Kind, count: Count) -> io::Result<u32> {
     let mut asked: u32 = 0;
     for last in 0u16..256 {
         let set = Set {
@@ -81,48 +80,45 @@ fn final_bytes(kind: Kind, count: Count) -> u32 {
             count: count,
             last: (last % 256) as u8,
         };
-        asked = wrapping_add_u32(asked, position_bytes(set));
+        asked = wrapping_add_u32(asked, position_bytes(rt, set)?);
     }
-    asked
+    Ok(asked)
 }
 
-fn sizes(kind: Kind) -> u32 {
-    let one = final_bytes(kind, Count::One);
-    let two = final_bytes(kind, Count::Two);
-    let three = final_bytes(kind, Count::Three);
-    wrapping_add_u32(one, wrapping_add_u32(two, three))
+fn sizes(rt: &impl Print, kind: Kind) -> io::Result<u32> {
+    let one = final_bytes(rt, kind, Count::One)?;
+    let two = final_bytes(rt, kind, Count::Two)?;
+    let three = final_bytes(rt, kind, Count::Three)?;
+    Ok(wrapping_add_u32(one, wrapping_add_u32(two, three)))
 }
 
-fn back(number: u32) {
+fn back(rt: &impl Print, number: u32) -> io::Result<()> {
     match unicode_numbers::locate(number) {
         Located::At(set, position) => {
-            io::print_hex(1, number as u64, 4);
-            io::write_all(1, b" ");
-            print_set(set);
+            print!(rt; "{number:04x} ")?;
+            print_set(rt, set)?;
             let column = position.column;
             let row = position.row;
-            print_position(column, row);
-            io::write_all(1, b"\n");
+            print_position(rt, column, row)?;
+            rt.write_all(b"\n")
         }
-        Located::Nowhere => {}
+        Located::Nowhere => Ok(()),
     }
 }
 
 // All numbers of Unicode, 0 to 10FFFF, and as many above it.
-fn numbers() -> u32 {
+fn numbers(rt: &impl Print) -> io::Result<u32> {
     let mut asked: u32 = 0;
     for number in 0u32..0x220000 {
-        back(number);
+        back(rt, number)?;
         asked = wrapping_add_u32(asked, 1);
     }
-    asked
+    Ok(asked)
 }
 
-fn main() {
-    let positions = wrapping_add_u32(sizes(Kind::Of94), sizes(Kind::Of96));
-    io::print_decimal(1, positions as u64);
-    io::write_all(1, b" positions asked\n");
-    let all = numbers();
-    io::print_decimal(1, all as u64);
-    io::write_all(1, b" numbers asked\n");
+fn main(rt: HostRuntime) -> io::Result<()> {
+    let positions = wrapping_add_u32(sizes(&rt, Kind::Of94)?, sizes(&rt, Kind::Of96)?);
+    println!(rt; "{positions} positions asked")?;
+    let all = numbers(&rt)?;
+    println!(rt; "{all} numbers asked")
 }

@@ -8,6 +8,7 @@
 #![tactic(auto)]
 
 use paper::{ControlElement, Element, Form, Intermediates, Meaning, SequenceByte, Shift};
+use std::io;
 
 // A meaning in four numbers.
 #[derive(Clone, Copy)]
@@ -97,52 +98,50 @@ fn same(a: Said, b: Said) -> bool {
     false
 }
 
-fn print_byte(byte: u8) {
-    io::write_all(1, b" ");
-    io::print_hex(1, byte as u64, 2);
+fn print_byte(rt: &impl Print, byte: u8) -> io::Result<()> {
+    print!(rt; " {byte:02x}")
 }
 
-fn print_value(value: u8) {
-    io::write_all(1, b" ");
-    io::print_decimal(1, value as u64);
+fn print_value(rt: &impl Print, value: u8) -> io::Result<()> {
+    print!(rt; " {value}")
 }
 
-fn print_form(form: Form) {
+fn print_form(rt: &impl Print, form: Form) -> io::Result<()> {
     match form {
-        Form::Seven => {
-            io::write_all(1, b"7");
-        }
-        Form::Eight => {
-            io::write_all(1, b"8");
-        }
+        Form::Seven => rt.write_all(b"7"),
+        Form::Eight => rt.write_all(b"8"),
     }
 }
 
-fn print_intermediates(intermediates: Intermediates) {
+fn print_intermediates(rt: &impl Print, intermediates: Intermediates) -> io::Result<()> {
     match intermediates {
-        Intermediates::None => {}
-        Intermediates::One(first) => {
-            print_byte(first);
-        }
+        Intermediates::None => Ok(()),
+        Intermediates::One(first) => print_byte(rt, first),
         Intermediates::Two(first, second) => {
-            print_byte(first);
-            print_byte(second);
+            print_byte(rt, first)?;
+            print_byte(rt, second)
         }
     }
 }
 
 // The line of the finals from one to another.
-fn print_finals(form: Form, intermediates: Intermediates, from: u8, to: u8) {
-    print_form(form);
-    print_intermediates(intermediates);
-    print_byte(from);
-    print_byte(to);
+fn print_finals(
+    rt: &impl Print,
+    form: Form,
+    intermediates: Intermediates,
+    from: u8,
+    to: u8,
+) -> io::Result<()> {
+    print_form(rt, form)?;
+    print_intermediates(rt, intermediates)?;
+    print_byte(rt, from)?;
+    print_byte(rt, to)?;
     let answer = answered_by(escapes::meaning_of(form, intermediates, from));
-    print_value(answer.word);
-    print_value(answer.first);
-    print_value(answer.second);
-    print_value(answer.third);
-    io::write_all(1, b"\n");
+    print_value(rt, answer.word)?;
+    print_value(rt, answer.first)?;
+    print_value(rt, answer.second)?;
+    print_value(rt, answer.third)?;
+    rt.write_all(b"\n")
 }
 
 // Whether two finals mean the same.
@@ -154,58 +153,55 @@ fn alike(form: Form, intermediates: Intermediates, one: u8, other: u8) -> bool {
 }
 
 // Every final after these intermediates, 3/0 to 7/14.
-fn finals(form: Form, intermediates: Intermediates) {
+fn finals(rt: &impl Print, form: Form, intermediates: Intermediates) -> io::Result<()> {
     let mut from: u8 = 0x30;
     for last in 0x31u8..0x7F {
         if !alike(form, intermediates, from, last) {
-            print_finals(form, intermediates, from, last - 1);
+            print_finals(rt, form, intermediates, from, last - 1)?;
             from = last;
         }
     }
-    print_finals(form, intermediates, from, 0x7E);
+    print_finals(rt, form, intermediates, from, 0x7E)
 }
 
 // Every second intermediate after a first.
-fn seconds(form: Form, first: u8) {
+fn seconds(rt: &impl Print, form: Form, first: u8) -> io::Result<()> {
     for second in 0x20u8..0x30 {
-        finals(form, Intermediates::Two(first, second));
+        finals(rt, form, Intermediates::Two(first, second))?;
     }
+    Ok(())
 }
 
 // Every sequence of a form.
-fn sequences(form: Form) {
-    finals(form, Intermediates::None);
+fn sequences(rt: &impl Print, form: Form) -> io::Result<()> {
+    finals(rt, form, Intermediates::None)?;
     for first in 0x20u8..0x30 {
-        finals(form, Intermediates::One(first));
-        seconds(form, first);
+        finals(rt, form, Intermediates::One(first))?;
+        seconds(rt, form, first)?;
     }
+    Ok(())
 }
 
 // What a byte is inside a sequence.
-fn print_inside(byte: u8) {
-    io::write_all(1, b"byte");
-    print_byte(byte);
+fn print_inside(rt: &impl Print, byte: u8) -> io::Result<()> {
+    rt.write_all(b"byte")?;
+    print_byte(rt, byte)?;
     match escapes::sequence_byte(byte) {
-        SequenceByte::Intermediate => {
-            io::write_all(1, b" intermediate\n");
-        }
-        SequenceByte::Final => {
-            io::write_all(1, b" final\n");
-        }
-        SequenceByte::Neither => {
-            io::write_all(1, b" neither\n");
-        }
+        SequenceByte::Intermediate => rt.write_all(b" intermediate\n"),
+        SequenceByte::Final => rt.write_all(b" final\n"),
+        SequenceByte::Neither => rt.write_all(b" neither\n"),
     }
 }
 
-fn bytes() {
+fn bytes(rt: &impl Print) -> io::Result<()> {
     for byte in 0u8..=255 {
-        print_inside(byte);
+        print_inside(rt, byte)?;
     }
+    Ok(())
 }
 
-fn main() {
-    bytes();
-    sequences(Form::Seven);
-    sequences(Form::Eight);
+fn main(rt: HostRuntime) -> io::Result<()> {
+    bytes(&rt)?;
+    sequences(&rt, Form::Seven)?;
+    sequences(&rt, Form::Eight)
 }
