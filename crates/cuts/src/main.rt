@@ -7,10 +7,11 @@
 // opening, so that a broken one can be tried. A triple that the input ends inside is left out.
 #![tactic(auto)]
 
-ghost use Rattle.std.specs.Prelude.{◌≡◌, true};
+ghost use Rattle.std.specs.Prelude.{◌≡◌, ◌≤◌, true, length, IfOk};
 
-use libc::{STDIN_FILENO, STDOUT_FILENO};
 use paper::{Answer, Answered, Converted, EndWord, Form, Reader};
+use std::io;
+use std::io::Read;
 use std::num::wrapping_add_usize;
 
 // A length is one byte, so no text is longer.
@@ -44,12 +45,28 @@ enum Comparison {
     DiffersAtEnd,
 }
 
-fn print(text: &[u8]) {
-    io::write_all(STDOUT_FILENO, text);
+// Reads until the buffer is full or the input ends, and answers how many bytes it put there; a read that fails is an error.
+fn read_full(rt: &impl Input, buffer: &mut [u8]) -> io::Result<usize>
+    ensures { IfOk result (λ count. count ≤ length buffer.new) }
+{
+    let mut input = rt.reader();
+    let mut done = 0;
+    while done < buffer.len() {
+        let count = input.read(&mut buffer[done..])?;
+        if count == 0 {
+            break;
+        }
+        done += count;
+    }
+    Ok(done)
 }
 
-fn print_number(number: usize) {
-    io::print_decimal(STDOUT_FILENO, number as u64);
+fn print(rt: &impl Print, text: &[u8]) -> io::Result<()> {
+    rt.write_all(text)
+}
+
+fn print_number(rt: &impl Print, number: usize) -> io::Result<()> {
+    rt.print(number)
 }
 
 // The first bytes of a buffer, as many as a call says that it wrote: never more than there are.
@@ -171,92 +188,111 @@ fn read_over(reader: Reader, text: &[u8]) -> Answered {
 }
 
 // The line that the library makes.
-fn print_line(offset: usize, answer: Answer) {
+fn print_line(rt: &impl Print, offset: usize, answer: Answer) -> io::Result<()> {
     let mut line = [0u8; LINE];
     match listing::line_of(offset, answer, &mut line) {
-        Converted::Done(length) => print(start_of(&line, length)),
-        Converted::Refused(_, _) => print(b"no room for a line\n"),
+        Converted::Done(length) => print(rt, start_of(&line, length)),
+        Converted::Refused(_, _) => print(rt, b"no room for a line\n"),
     }
 }
 
-fn print_answer(offset: usize, answer: Answer) {
+fn print_answer(rt: &impl Print, offset: usize, answer: Answer) -> io::Result<()> {
     let shown = shown_as(answer);
     if shown == IN_A_LINE {
-        print_line(offset, answer);
-        return;
+        return print_line(rt, offset, answer);
     }
-    print_number(offset);
+    print_number(rt, offset)?;
     if shown == SKIPPED {
-        print(b" skipped\n");
+        print(rt, b" skipped\n")
     } else {
-        print(b" nothing yet\n");
+        print(rt, b" nothing yet\n")
     }
 }
 
-fn print_end(end: EndWord) {
+fn print_end(rt: &impl Print, end: EndWord) -> io::Result<()> {
     match end {
-        EndWord::Whole => print(b" whole"),
-        EndWord::Inside => print(b" inside"),
-        EndWord::Lost => print(b" lost"),
+        EndWord::Whole => print(rt, b" whole"),
+        EndWord::Inside => print(rt, b" inside"),
+        EndWord::Lost => print(rt, b" lost"),
     }
 }
 
-fn print_comparison(comparison: Comparison) {
+fn print_comparison(rt: &impl Print, comparison: Comparison) -> io::Result<()> {
     match comparison {
-        Comparison::Same => print(b" same\n"),
+        Comparison::Same => print(rt, b" same\n"),
         Comparison::DiffersAt(offset) => {
-            print(b" differs at ");
-            print_number(offset);
-            print(b"\n");
+            print(rt, b" differs at ")?;
+            print_number(rt, offset)?;
+            print(rt, b"\n")
         }
-        Comparison::DiffersAtEnd => print(b" differs at end\n"),
+        Comparison::DiffersAtEnd => print(rt, b" differs at end\n"),
     }
 }
 
 // The reader has read the first text up to the cut.
-fn print_cut(cut: usize, reader: Reader, started: Reader, between: &[u8], second: &[u8]) {
-    print(b"cut ");
-    print_number(cut);
-    print_end(reader::end_word(reader));
+fn print_cut(
+    rt: &impl Print,
+    cut: usize,
+    reader: Reader,
+    started: Reader,
+    between: &[u8],
+    second: &[u8],
+) -> io::Result<()> {
+    print(rt, b"cut ")?;
+    print_number(rt, cut)?;
+    print_end(rt, reader::end_word(reader))?;
     let over = read_over(reader, between);
     let after = over.reader;
-    print_comparison(compare(after, started, second));
+    print_comparison(rt, compare(after, started, second))?;
     if between.len() > 0 {
         let answer = over.answer;
         // At most 509, so this never wraps.
-        print_answer(wrapping_add_usize(cut, between.len() - 1), answer);
+        print_answer(rt, wrapping_add_usize(cut, between.len() - 1), answer)?;
     }
+    Ok(())
 }
 
 // Reading on from a reader leaves it as it was, so that the reader of one cut serves for the next.
-fn print_cuts(form: Form, first: &[u8], between: &[u8], second: &[u8]) {
+fn print_cuts(
+    rt: &impl Print,
+    form: Form,
+    first: &[u8],
+    between: &[u8],
+    second: &[u8],
+) -> io::Result<()> {
     let started = reader::start(form);
     let mut reader = started;
     let mut cut = 0;
     while cut < first.len() {
-        print_cut(cut, reader, started, between, second);
+        print_cut(rt, cut, reader, started, between, second)?;
         let given = reader::read(reader, first[cut]);
         reader = given.reader;
         cut += 1;
     }
-    print_cut(cut, reader, started, between, second);
+    print_cut(rt, cut, reader, started, between, second)
 }
 
-fn print_length(length: usize) {
-    print(b" ");
-    print_number(length);
+fn print_length(rt: &impl Print, length: usize) -> io::Result<()> {
+    print(rt, b" ")?;
+    print_number(rt, length)
 }
 
-fn print_triple(form: Form, first: &[u8], between: &[u8], second: &[u8]) {
+fn print_triple(
+    rt: &impl Print,
+    form: Form,
+    first: &[u8],
+    between: &[u8],
+    second: &[u8],
+) -> io::Result<()> {
     match form {
-        Form::Seven => print(b"cuts 7"),
-        Form::Eight => print(b"cuts 8"),
+        Form::Seven => print(rt, b"cuts 7")?,
+        Form::Eight => print(rt, b"cuts 8")?,
     }
-    print_length(first.len());
-    print_length(between.len());
-    print_length(second.len());
-    print(b"\n");
-    print_cuts(form, first, between, second);
+    print_length(rt, first.len())?;
+    print_length(rt, between.len())?;
+    print_length(rt, second.len())?;
+    print(rt, b"\n")?;
+    print_cuts(rt, form, first, between, second)
 }
 
 fn form_named(byte: u8) -> Form {
@@ -272,53 +308,59 @@ fn length_of(byte: u8) -> usize {
 }
 
 // Reads a text over the whole of a buffer.
-fn read_whole(text: &mut [u8]) -> Text {
-    if io::read_full(STDIN_FILENO, text) == text.len() {
-        Text::Length(text.len())
+fn read_whole(rt: &impl Input, text: &mut [u8]) -> io::Result<Text> {
+    if read_full(rt, text)? == text.len() {
+        Ok(Text::Length(text.len()))
     } else {
-        Text::Missing
+        Ok(Text::Missing)
     }
 }
 
 // Reads a length, and a text of that length to the start of a buffer.
-fn read_text(buffer: &mut [u8]) -> Text {
+fn read_text(rt: &impl Input, buffer: &mut [u8]) -> io::Result<Text> {
     let mut head = [0u8; 1];
-    if io::read_full(STDIN_FILENO, &mut head) < 1 {
-        return Text::Missing;
+    if read_full(rt, &mut head)? < 1 {
+        return Ok(Text::Missing);
     }
     let length = length_of(head[0]);
     if length <= buffer.len() {
-        read_whole(&mut buffer[..length])
+        read_whole(rt, &mut buffer[..length])
     } else {
-        Text::Missing
+        Ok(Text::Missing)
     }
 }
 
 // Reads one triple and tries its cuts; false where there is none.
-fn try_one(first: &mut [u8], between: &mut [u8], second: &mut [u8]) -> bool {
+fn try_one(
+    rt: &(impl Input + Print),
+    first: &mut [u8],
+    between: &mut [u8],
+    second: &mut [u8],
+) -> io::Result<bool> {
     let mut form = [0u8; 1];
-    if io::read_full(STDIN_FILENO, &mut form) < 1 {
-        return false;
+    if read_full(rt, &mut form)? < 1 {
+        return Ok(false);
     }
-    let Text::Length(first_length) = read_text(first) else {
-        return false;
+    let Text::Length(first_length) = read_text(rt, first)? else {
+        return Ok(false);
     };
-    let Text::Length(between_length) = read_text(between) else {
-        return false;
+    let Text::Length(between_length) = read_text(rt, between)? else {
+        return Ok(false);
     };
-    let Text::Length(second_length) = read_text(second) else {
-        return false;
+    let Text::Length(second_length) = read_text(rt, second)? else {
+        return Ok(false);
     };
     print_triple(
+        rt,
         form_named(form[0]),
         start_of(first, first_length),
         start_of(between, between_length),
         start_of(second, second_length),
-    );
-    true
+    )?;
+    Ok(true)
 }
 
-fn main() {
+fn main(rt: HostRuntime) -> io::Result<()> {
     let mut first_room = [0u8; ROOM];
     let mut between_room = [0u8; ROOM];
     let mut second_room = [0u8; ROOM];
@@ -326,7 +368,8 @@ fn main() {
     let between: &mut [u8] = &mut between_room;
     let second: &mut [u8] = &mut second_room;
     let mut turns = TRIPLES;
-    while turns > 0 && try_one(first, between, second) {
+    while turns > 0 && try_one(&rt, first, between, second)? {
         turns -= 1;
     }
+    Ok(())
 }
