@@ -5,8 +5,11 @@
 // those which must stay are seen as well. A case that is too long for this program, or that the input ends inside, ends the run.
 #![tactic(auto)]
 
-use libc::{STDIN_FILENO, STDOUT_FILENO};
+ghost use Rattle.std.specs.Prelude.{◌≤◌, length, IfOk};
+
 use paper::{Converted, Form};
+use std::io;
+use std::io::Read;
 
 // The longest text and the longest lent buffer that are asked.
 const TEXT_ROOM: usize = 80000;
@@ -36,28 +39,44 @@ enum Asked {
     Missing,
 }
 
-fn print(text: &[u8]) {
-    io::write_all(STDOUT_FILENO, text);
+// Reads until the buffer is full or the input ends, and answers how many bytes it put there; a read that fails is an error.
+fn read_full(rt: &impl Input, buffer: &mut [u8]) -> io::Result<usize>
+    ensures { IfOk result (λ count. count ≤ length buffer.new) }
+{
+    let mut input = rt.reader();
+    let mut done = 0;
+    while done < buffer.len() {
+        let count = input.read(&mut buffer[done..])?;
+        if count == 0 {
+            break;
+        }
+        done += count;
+    }
+    Ok(done)
 }
 
-fn print_number(number: usize) {
-    io::print_decimal(STDOUT_FILENO, number as u64);
+fn print(rt: &impl Print, text: &[u8]) -> io::Result<()> {
+    rt.write_all(text)
 }
 
-fn print_result(res: Converted) {
+fn print_number(rt: &impl Print, number: usize) -> io::Result<()> {
+    rt.print(number)
+}
+
+fn print_result(rt: &impl Print, res: Converted) -> io::Result<()> {
     match res {
         Converted::Done(length) => {
-            print(b"done ");
-            print_number(length);
+            print(rt, b"done ")?;
+            print_number(rt, length)?;
         }
         Converted::Refused(refusal, place) => {
-            print(b"refused ");
-            print_number(refusals::number_of(refusal));
-            print(b" at ");
-            print_number(place);
+            print(rt, b"refused ")?;
+            print_number(rt, refusals::number_of(refusal))?;
+            print(rt, b" at ")?;
+            print_number(rt, place)?;
         }
     }
-    print(b"\n");
+    print(rt, b"\n")
 }
 
 fn digit(value: u8) -> u8 {
@@ -92,30 +111,31 @@ fn after(left: usize) -> u8 {
 }
 
 // The first bytes of a buffer, as many as a call says that it wrote: never more than there are.
-fn print_start(buffer: &[u8], length: usize) {
+fn print_start(rt: &impl Print, buffer: &[u8], length: usize) -> io::Result<()> {
     if length <= buffer.len() {
-        print(&buffer[..length]);
+        print(rt, &buffer[..length])?;
     }
+    Ok(())
 }
 
-fn print_piece(bytes: &[u8]) {
+fn print_piece(rt: &impl Print, bytes: &[u8]) -> io::Result<()> {
     let mut room = [0u8; PIECE];
     let piece: &mut [u8] = &mut room;
     let length = spell(bytes, piece);
-    print_start(piece, length);
+    print_start(rt, piece, length)
 }
 
 // In pieces, so that no second buffer three times as long is needed.
-fn print_bytes(bytes: &[u8]) {
+fn print_bytes(rt: &impl Print, bytes: &[u8]) -> io::Result<()> {
     if bytes.len() == 0 {
-        print(b"\n");
+        print(rt, b"\n")?;
     }
     let mut from = 0;
     while bytes.len() - from > SHOWN {
-        print_piece(&bytes[from..]);
+        print_piece(rt, &bytes[from..])?;
         from += SHOWN;
     }
-    print_piece(&bytes[from..]);
+    print_piece(rt, &bytes[from..])
 }
 
 fn fill(buffer: &mut [u8], byte: u8) {
@@ -135,28 +155,40 @@ fn convert(form: Form, text: &[u8], buffer: &mut [u8]) -> Converted {
 }
 
 // Reads a text over the whole of a buffer and converts it into another; false where the text is cut short.
-fn convert_over(form: Form, byte: u8, text: &mut [u8], lent: &mut [u8]) -> bool {
-    if io::read_full(STDIN_FILENO, text) < text.len() {
-        return false;
+fn convert_over(
+    rt: &(impl Input + Print),
+    form: Form,
+    byte: u8,
+    text: &mut [u8],
+    lent: &mut [u8],
+) -> io::Result<bool> {
+    if read_full(rt, text)? < text.len() {
+        return Ok(false);
     }
     fill(lent, byte);
-    print_result(convert(form, text, lent));
-    print_bytes(lent);
-    true
+    print_result(rt, convert(form, text, lent))?;
+    print_bytes(rt, lent)?;
+    Ok(true)
 }
 
 // Reads a text of this length and converts it into a buffer of this length; false where there is no room for one of them.
-fn convert_text(case: Case, text: &mut [u8], lent: &mut [u8]) -> bool {
+fn convert_text(
+    rt: &(impl Input + Print),
+    case: Case,
+    text: &mut [u8],
+    lent: &mut [u8],
+) -> io::Result<bool> {
     let form = case.form;
     let length = case.length;
     let lent_length = case.lent;
     if length > text.len() {
-        return false;
+        return Ok(false);
     }
     if lent_length > lent.len() {
-        return false;
+        return Ok(false);
     }
     convert_over(
+        rt,
         form,
         case.fill,
         &mut text[..length],
@@ -176,34 +208,35 @@ fn length_of(first: u8, second: u8, third: u8) -> usize {
     first as usize * 65536 + second as usize * 256 + third as usize
 }
 
-fn read_case() -> Asked {
+fn read_case(rt: &impl Input) -> io::Result<Asked> {
     let mut head = [0u8; 8];
-    if io::read_full(STDIN_FILENO, &mut head) < 8 {
-        return Asked::Missing;
+    if read_full(rt, &mut head)? < 8 {
+        return Ok(Asked::Missing);
     }
-    Asked::One(Case {
+    Ok(Asked::One(Case {
         form: form_named(head[0]),
         fill: head[1],
         lent: length_of(head[2], head[3], head[4]),
         length: length_of(head[5], head[6], head[7]),
-    })
+    }))
 }
 
 // Reads one case and runs it; false where there is none.
-fn run_one(text: &mut [u8], lent: &mut [u8]) -> bool {
-    match read_case() {
-        Asked::One(case) => convert_text(case, text, lent),
-        Asked::Missing => false,
+fn run_one(rt: &(impl Input + Print), text: &mut [u8], lent: &mut [u8]) -> io::Result<bool> {
+    match read_case(rt)? {
+        Asked::One(case) => convert_text(rt, case, text, lent),
+        Asked::Missing => Ok(false),
     }
 }
 
-fn main() {
+fn main(rt: HostRuntime) -> io::Result<()> {
     let mut text_room = [0u8; TEXT_ROOM];
     let mut lent_room = [0u8; LENT_ROOM];
     let text: &mut [u8] = &mut text_room;
     let lent: &mut [u8] = &mut lent_room;
     let mut turns = CASES;
-    while turns > 0 && run_one(text, lent) {
+    while turns > 0 && run_one(&rt, text, lent)? {
         turns -= 1;
     }
+    Ok(())
 }
