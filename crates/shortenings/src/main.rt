@@ -6,8 +6,11 @@
 // fill. A case that is too long for this program, or that the input ends inside, ends the run.
 #![tactic(auto)]
 
-use libc::{STDIN_FILENO, STDOUT_FILENO};
+ghost use Rattle.std.specs.Prelude.{◌≤◌, length, IfOk};
+
 use paper::{Converted, Form};
+use std::io;
+use std::io::Read;
 
 // The longest text, the longest lent buffer and the longest work buffer that are asked.
 const TEXT_ROOM: usize = 5000;
@@ -38,28 +41,44 @@ enum Asked {
     Missing,
 }
 
-fn print(text: &[u8]) {
-    io::write_all(STDOUT_FILENO, text);
+// Reads until the buffer is full or the input ends, and answers how many bytes it put there; a read that fails is an error.
+fn read_full(rt: &impl Input, buffer: &mut [u8]) -> io::Result<usize>
+    ensures { IfOk result (λ count. count ≤ length buffer.new) }
+{
+    let mut input = rt.reader();
+    let mut done = 0;
+    while done < buffer.len() {
+        let count = input.read(&mut buffer[done..])?;
+        if count == 0 {
+            break;
+        }
+        done += count;
+    }
+    Ok(done)
 }
 
-fn print_number(number: usize) {
-    io::print_decimal(STDOUT_FILENO, number as u64);
+fn print(rt: &impl Print, text: &[u8]) -> io::Result<()> {
+    rt.write_all(text)
 }
 
-fn print_result(res: Converted) {
+fn print_number(rt: &impl Print, number: usize) -> io::Result<()> {
+    rt.print(number)
+}
+
+fn print_result(rt: &impl Print, res: Converted) -> io::Result<()> {
     match res {
         Converted::Done(length) => {
-            print(b"done ");
-            print_number(length);
+            print(rt, b"done ")?;
+            print_number(rt, length)?;
         }
         Converted::Refused(refusal, place) => {
-            print(b"refused ");
-            print_number(refusals::number_of(refusal));
-            print(b" at ");
-            print_number(place);
+            print(rt, b"refused ")?;
+            print_number(rt, refusals::number_of(refusal))?;
+            print(rt, b" at ")?;
+            print_number(rt, place)?;
         }
     }
-    print(b"\n");
+    print(rt, b"\n")
 }
 
 fn digit(value: u8) -> u8 {
@@ -89,21 +108,22 @@ fn spell(bytes: &[u8], shown: &mut [u8]) -> usize {
 }
 
 // The first bytes of a buffer, as many as a call says that it wrote: never more than there are.
-fn print_start(buffer: &[u8], length: usize) {
+fn print_start(rt: &impl Print, buffer: &[u8], length: usize) -> io::Result<()> {
     if length <= buffer.len() {
-        print(&buffer[..length]);
+        print(rt, &buffer[..length])?;
     }
+    Ok(())
 }
 
 // The last space is the line's end instead.
-fn print_bytes(bytes: &[u8]) {
+fn print_bytes(rt: &impl Print, bytes: &[u8]) -> io::Result<()> {
     let mut room = [0u8; SHOWN_ROOM];
     let shown: &mut [u8] = &mut room;
     let length = spell(bytes, shown);
     if length > 0 {
-        print_start(shown, length - 1);
+        print_start(rt, shown, length - 1)?;
     }
-    print(b"\n");
+    print(rt, b"\n")
 }
 
 // How many bytes at the start are zero.
@@ -124,12 +144,12 @@ fn kept(bytes: &[u8], byte: u8) -> usize {
     count
 }
 
-fn print_work(work: &[u8], byte: u8) {
-    print(b"work ");
-    print_number(zeros(work));
-    print(b" ");
-    print_number(kept(work, byte));
-    print(b"\n");
+fn print_work(rt: &impl Print, work: &[u8], byte: u8) -> io::Result<()> {
+    print(rt, b"work ")?;
+    print_number(rt, zeros(work))?;
+    print(rt, b" ")?;
+    print_number(rt, kept(work, byte))?;
+    print(rt, b"\n")
 }
 
 fn fill(buffer: &mut [u8], byte: u8) {
@@ -141,34 +161,48 @@ fn fill(buffer: &mut [u8], byte: u8) {
 }
 
 // Reads a text over the whole of a buffer and shortens it into another; false where the text is cut short.
-fn shorten_over(form: Form, byte: u8, text: &mut [u8], lent: &mut [u8], work: &mut [u8]) -> bool {
-    if io::read_full(STDIN_FILENO, text) < text.len() {
-        return false;
+fn shorten_over(
+    rt: &(impl Input + Print),
+    form: Form,
+    byte: u8,
+    text: &mut [u8],
+    lent: &mut [u8],
+    work: &mut [u8],
+) -> io::Result<bool> {
+    if read_full(rt, text)? < text.len() {
+        return Ok(false);
     }
     fill(lent, byte);
     fill(work, byte);
-    print_result(shortener::shortest(form, text, lent, work));
-    print_bytes(lent);
-    print_work(work, byte);
-    true
+    print_result(rt, shortener::shortest(form, text, lent, work))?;
+    print_bytes(rt, lent)?;
+    print_work(rt, work, byte)?;
+    Ok(true)
 }
 
 // Reads a text of this length and shortens it with buffers of these lengths; false where there is no room for one of them.
-fn shorten_text(case: Case, text: &mut [u8], lent: &mut [u8], work: &mut [u8]) -> bool {
+fn shorten_text(
+    rt: &(impl Input + Print),
+    case: Case,
+    text: &mut [u8],
+    lent: &mut [u8],
+    work: &mut [u8],
+) -> io::Result<bool> {
     let form = case.form;
     let length = case.length;
     let lent_length = case.lent;
     let work_length = case.work;
     if length > text.len() {
-        return false;
+        return Ok(false);
     }
     if lent_length > lent.len() {
-        return false;
+        return Ok(false);
     }
     if work_length > work.len() {
-        return false;
+        return Ok(false);
     }
     shorten_over(
+        rt,
         form,
         case.fill,
         &mut text[..length],
@@ -189,29 +223,34 @@ fn length_of(first: u8, second: u8, third: u8) -> usize {
     first as usize * 65536 + second as usize * 256 + third as usize
 }
 
-fn read_case() -> Asked {
+fn read_case(rt: &impl Input) -> io::Result<Asked> {
     let mut head = [0u8; 11];
-    if io::read_full(STDIN_FILENO, &mut head) < 11 {
-        return Asked::Missing;
+    if read_full(rt, &mut head)? < 11 {
+        return Ok(Asked::Missing);
     }
-    Asked::One(Case {
+    Ok(Asked::One(Case {
         form: form_named(head[0]),
         fill: head[1],
         lent: length_of(head[2], head[3], head[4]),
         work: length_of(head[5], head[6], head[7]),
         length: length_of(head[8], head[9], head[10]),
-    })
+    }))
 }
 
 // Reads one case and runs it; false where there is none.
-fn run_one(text: &mut [u8], lent: &mut [u8], work: &mut [u8]) -> bool {
-    match read_case() {
-        Asked::One(case) => shorten_text(case, text, lent, work),
-        Asked::Missing => false,
+fn run_one(
+    rt: &(impl Input + Print),
+    text: &mut [u8],
+    lent: &mut [u8],
+    work: &mut [u8],
+) -> io::Result<bool> {
+    match read_case(rt)? {
+        Asked::One(case) => shorten_text(rt, case, text, lent, work),
+        Asked::Missing => Ok(false),
     }
 }
 
-fn main() {
+fn main(rt: HostRuntime) -> io::Result<()> {
     let mut text_room = [0u8; TEXT_ROOM];
     let mut lent_room = [0u8; LENT_ROOM];
     let mut work_room = [0u8; WORK_ROOM];
@@ -219,7 +258,8 @@ fn main() {
     let lent: &mut [u8] = &mut lent_room;
     let work: &mut [u8] = &mut work_room;
     let mut turns = CASES;
-    while turns > 0 && run_one(text, lent, work) {
+    while turns > 0 && run_one(&rt, text, lent, work)? {
         turns -= 1;
     }
+    Ok(())
 }
