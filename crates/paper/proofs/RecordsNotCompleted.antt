@@ -42,9 +42,14 @@ module _ (r : Reader) (b : ℕ) (bs : List ℕ) where
       (with_mark (is_in_step r.standing gives is_complete r.form k or false)
       (sequence_from (recording (recorded next.standing r.standing r.form k) next) bs))
 
+  -- the answer does not know the record. Said first: where it is false, the two sequences of the law below would be compared to their ends
+  answer_alone : (k : ℕ) → (answer_to (recording k r) b).answer ≡ (answer_of r b).answer
+  unfolding answer_to
+  answer_alone k = refl
+
   pub from_gone_lem : (k : ℕ) → sequence_from (recording k r) (b ∷ bs) ≡ from_gone (matched_with r.form k b)
   unfolding answer_to
-  from_gone_lem k = refl
+  from_gone_lem k = let same = answer_alone k in refl
 
   -- no mark, and then a record
   abbrev pub without_mark : ℕ → List Entry
