@@ -8,7 +8,7 @@ use codetable::{BIT_8, form_has};
 use paper::Form;
 
 // Whether a letter stands here.
-#[tactic(auto, unfolding(crate::specs::Letters::is_letter))]
+#[tactic(auto, using(paper::proofs::Choices::above_bounds), unfolding(crate::specs::Letters::is_letter))]
 pub fn is_letter(form: Form, state: &[u8; CELLS], byte: u8) -> bool
     ensures { result ≡ is_letter form state.now byte }
 {

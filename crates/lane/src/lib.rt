@@ -112,6 +112,7 @@ fn passes(lane: Lane, byte: u8) -> bool
 }
 
 // The same for one byte, by as few tests as a letter takes.
+#[tactic(auto, using(crate::proofs::PlainBytes::passes_from_space))]
 fn passes_alone(lane: Lane, byte: u8) -> bool
     ensures { result ≡ passes lane byte }
 {

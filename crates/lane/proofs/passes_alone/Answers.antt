@@ -1,24 +1,19 @@
--- Above the plain bytes the bounds decide, from SPACE on a plain byte is quiet, and one that is not quiet is left to the bounds.
+-- Above the plain bytes the bounds decide, and a plain byte that is not quiet is left to the bounds.
 use Prim.Native.Nat.{ℕ, ◌<◌, ◌≤◌}
 use mathlib.Core.Path.{◌≡◌, refl, sym, ◌∙◌}
 use mathlib.Core.Bool.{Bool, true, false}
 use native.Mathlib.Omega.{arith}
-use borrow.Author.Tests.{le-leb, lt-leb, ne_eqb}
+use borrow.Author.Tests.{le-leb, lt-leb}
 use lib.Dec.{leb}
 use Rattle.paper.specs.Choice.{◌gives◌or◌, between}
-use Rattle.paper.specs.CodeTable.{so, si, esc}
-use Rattle.paper.proofs.Choices.{above_bounds}
 use Rattle.lane.specs.declared.Lane.{Lane}
 use Rattle.lane.specs.Passing.{is_quiet, passes}
+use Rattle.lane.proofs.PlainBytes.{plain_quiet}
 use Rattle.lane.proofs.passes_alone.Goals as goal
 
 itself : (t : Bool) → t ≡ (t gives true or false)
 itself true = refl
 itself false = refl
-
-true_anyway : (t : Bool) → true ≡ (t gives true or true)
-true_anyway true = refl
-true_anyway false = refl
 
 below_bounds : (x : Lane) (b : ℕ) → x.plain < b → b < x.first → false ≡ passes x b
 unfolding passes between
@@ -27,14 +22,6 @@ below_bounds x b h k = rw (lt-leb x.first b k, lt-leb b x.plain h)
 by_last : (x : Lane) (b : ℕ) → x.plain < b → x.first ≤ b → leb b x.last ≡ passes x b
 unfolding passes between
 by_last x b h k = rw (le-leb x.first b k, lt-leb b x.plain h) (itself (leb b x.last))
-
-plain_quiet : (x : Lane) (b : ℕ) → b ≤ x.plain → is_quiet b ≡ true → true ≡ passes x b
-unfolding passes
-plain_quiet x b h quiet = rw (le-leb b x.plain h, quiet) (true_anyway (between x.first x.last b))
-
-from_space : (b : ℕ) → 32 ≤ b → is_quiet b ≡ true
-unfolding is_quiet
-from_space b k = rw (ne_eqb b esc (λ e. omega arith), above_bounds so si b (omega arith) (omega arith))
 
 by_bounds : (x : Lane) (b : ℕ) → b ≤ x.plain → is_quiet b ≡ false → between x.first x.last b ≡ passes x b
 unfolding passes
@@ -45,9 +32,6 @@ returns-then-byte-lane c = below_bounds _ _ (omega arith) (omega arith)
 
 pub returns-then-lane-byte : goal.returns-then-lane-byte
 returns-then-lane-byte c = by_last _ _ (omega arith) (omega arith)
-
-pub returns-then-byte-ge-SPACE : goal.returns-then-byte-ge-SPACE
-returns-then-byte-ge-SPACE c = plain_quiet _ _ (omega arith) (from_space _ (omega arith))
 
 pub returns-then-is_quiet : goal.returns-then-is_quiet
 returns-then-is_quiet c = plain_quiet _ _ (omega arith) (sym c.is_quiet.ensures ∙ c.if-is_quiet.true)

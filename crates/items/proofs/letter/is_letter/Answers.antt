@@ -2,7 +2,7 @@
 use Rattle.std.proofs.Common.{◌≡◌, ◌%◌, true, arith, eq-eqb}
 use Rattle.paper.specs.Choice.{between}
 use Rattle.paper.specs.CodeTable.{bit8}
-use Rattle.paper.proofs.Choices.{in_bounds, above_bounds}
+use Rattle.paper.proofs.Choices.{in_bounds}
 use Rattle.items.specs.Letters.{is_letter}
 use Rattle.items.proofs.InsideSequences.{below_bounds}
 use Rattle.items.proofs.letter.is_letter.Goals as goal
@@ -11,16 +11,11 @@ pub returns-then-position-le-SPACE : goal.returns-then-position-le-SPACE
 unfolding is_letter
 returns-then-position-le-SPACE c = simp (below_bounds 0x21 0x7E (c.args.byte % bit8) (omega (arith, c.if-position-le-SPACE.true)))
 
-pub returns-then-position-eq-DELETE : goal.returns-then-position-eq-DELETE
-unfolding is_letter
-returns-then-position-eq-DELETE c = let b = c.args.byte in
-    simp (above_bounds 0x21 0x7E (b % bit8) (omega (arith, c.if-position-le-SPACE.false)) (omega (arith, c.if-position-eq-DELETE.true)))
-
 pub returns-then-form_has : goal.returns-then-form_has
 unfolding is_letter
 returns-then-form_has c =
     let inside : between 0x21 0x7E (c.args.byte % bit8) ≡ true =
-    in_bounds 0x21 0x7E (c.args.byte % bit8) (omega (arith, c.if-position-le-SPACE.false)) (omega (arith, c.if-position-eq-DELETE.false)) in
+    in_bounds 0x21 0x7E (c.args.byte % bit8) (omega arith) (omega arith) in
     simp (
       inside,
       ← c.single-taken.ensures,
