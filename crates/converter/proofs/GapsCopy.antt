@@ -101,7 +101,7 @@ module _ {m : Form} {text lent cells : List ℕ} {shown at place : ℕ} {buffer 
       let there : place + 2 + 1 ≡ place + 3 = omega arith in
       let shifted : Passes m Form.Eight text lent (after_in cells) shown at (place + 1) buffer =
       subst (λ (n : ℕ). Passes m Form.Eight text lent (after_in cells) shown n (place + 1) buffer) (add-zero at)
-      (item_goes_on p (omega (arith, g.inside)) (shifts (element_number Element.G0) (place + 1)) g.shift_in_lem (omega arith)
+      (item_goes_on p (omega (arith, g.inside)) (shifts (element_number Element.G0) (place + 1)) g.shift_in (omega arith)
       buffer refl (λ h. refl)) in
       let spaced : Passes m Form.Eight text lent (after_space cells) shown (at + 1) (place + 2) after =
       subst (λ (n : ℕ). Passes m Form.Eight text lent (after_space cells) shown (at + 1) n after) one_more_lem
@@ -109,7 +109,7 @@ module _ {m : Form} {text lent cells : List ℕ} {shown at place : ℕ} {buffer 
       subst (λ (n : ℕ). Passes m Form.Eight text lent cells shown (at + 1) n after) there
       (subst (λ (n : ℕ). Passes m Form.Eight text lent cells shown n (place + 2 + 1) after) (add-zero (at + 1))
       (same_passes g.same
-      (item_goes_on spaced (omega (arith, g.inside)) (shifts (element_number Element.G1) (place + 2 + 1)) g.shift_out_lem (omega arith)
+      (item_goes_on spaced (omega (arith, g.inside)) (shifts (element_number Element.G1) (place + 2 + 1)) g.shift_out (omega arith)
       after refl (λ h. refl))))
 
 pub gap_goes_on : (m to : Form) {text lent cells : List ℕ} {shown at place : ℕ} {buffer : List ℕ} (b : ℕ) →

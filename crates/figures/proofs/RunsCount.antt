@@ -55,12 +55,12 @@ module _ (form : Form) (text cells : List ℕ) (ground : single_in cells ≡ 0) 
       let g = gap_items form cells text place c.reader c.stands ground gaps ahead in
       let inside = g.inside in
       let one : Counts form text (after_in cells) (added counts shift_word 1) first (place + 1) =
-      item_counts c (omega arith) g.shift_in_lem (omega arith) in
+      item_counts c (omega arith) g.shift_in (omega arith) in
       let after_space_lem : place + 1 + 1 ≡ place + 2 = omega arith in
       let two : Counts form text (after_space cells) (added (added counts shift_word 1) space_word 1) first (place + 2) =
       rw (← after_space_lem) (item_counts one (omega arith) g.space_sign (omega arith)) in
       let after_all : place + 2 + 1 ≡ place + 3 = omega arith in
-      rw (← after_all) (in_state g.same (item_counts two (omega arith) g.shift_out_lem (omega arith)))
+      rw (← after_all) (in_state g.same (item_counts two (omega arith) g.shift_out (omega arith)))
 
 -- a letter passes
 pub letter_ahead : (form : Form) (cells : List ℕ) {lane : Lane} (text : List ℕ) (place : ℕ) → place < length text →

@@ -59,9 +59,9 @@ after_out cells = changed (shows_in_gl (element_number Element.G1)) (after_space
 
 pub record GapItems (m : Form) (cells text : List ℕ) (place : ℕ) : Type 0 where
   pub inside : place + 3 ≤ length text
-  pub shift_in_lem : item_at m cells text place ≡ shifts (element_number Element.G0) (place + 1)
+  pub shift_in : item_at m cells text place ≡ shifts (element_number Element.G0) (place + 1)
   pub space_sign : item_at m (after_in cells) text (place + 1) ≡ space_item (place + 1 + 1)
-  pub shift_out_lem : item_at m (after_space cells) text (place + 2) ≡ shifts (element_number Element.G1) (place + 2 + 1)
+  pub shift_out : item_at m (after_space cells) text (place + 2) ≡ shifts (element_number Element.G1) (place + 2 + 1)
   pub same : Same (after_out cells) cells
 
 on_the_ground : (m : Form) (r : Reader) (left : ℕ) (text : List ℕ) (place : ℕ) → Ahead text place →
@@ -70,9 +70,9 @@ on_the_ground : (m : Form) (r : Reader) (left : ℕ) (text : List ℕ) (place : 
 on_the_ground m r left text place a gl g0 =
     let cells : List ℕ = cells_of r none left in record {
       inside = a.inside;
-      shift_in_lem = shift_in_item m cells text place (omega (arith, a.inside)) refl a.is_si;
+      shift_in = shift_in_item m cells text place (omega (arith, a.inside)) refl a.is_si;
       space_sign = space_item_lem m (after_in cells) text (place + 1) (omega (arith, a.inside)) refl a.is_space g0;
-      shift_out_lem = shift_out_item m (after_space cells) text (place + 2) (omega (arith, a.inside)) refl a.is_so;
+      shift_out = shift_out_item m (after_space cells) text (place + 2) (omega (arith, a.inside)) refl a.is_so;
       same = ap (λ (shown : ℕ). set (set cells nowhere 0) 6 shown) (sym gl);
     }
 

@@ -208,6 +208,6 @@ fit_said t x p a stays can word are small =
     record {
       small = small;
       some = omega (arith, long, n.0);
-      of_character_lem = λ e. omega (arith, long, n.1 (sym word ∙ e));
+      of_character = λ e. omega (arith, long, n.1 (sym word ∙ e));
       of_control = λ e. long ∙ n.2 (sym word ∙ e);
     }

@@ -60,7 +60,7 @@ is_unit word = one_of (nothing_yet_word ∷ shift_word ∷ []) word gives false 
 pub record Fit (x : Effect) (p : Piece) : Type 0 where
   pub small : Small p
   pub some : 1 ≤ p.count
-  pub of_character_lem : x.word.0 ≡ char_word → p.count ≤ 3
+  pub of_character : x.word.0 ≡ char_word → p.count ≤ 3
   pub of_control : x.word.0 ≡ control_word → p.count ≡ 1
 
 -- room for so many bytes more in front
