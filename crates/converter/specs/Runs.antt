@@ -1,6 +1,7 @@
 -- No rule of the paper: for the contracts of private functions.
 -- The lane of a conversion: which bytes pass, and how they are written; and what stands between words for a space.
-use Rattle.std.specs.Prelude.{ℕ, zero, suc, ◌+◌, ◌-◌, ◌<◌, ◌≡◌, Bool, true, false, List, [], ◌∷◌, ◌++◌, ltb, leb, eqb, length, get_or}
+use Rattle.std.specs.Prelude.{ℕ, zero, suc, ◌+◌, ◌-◌, ◌<◌, ◌≡◌, Bool, true, false, List, [], ◌∷◌, ◌++◌}
+use Rattle.std.specs.Prelude.{ltb, leb, eqb, length, get_or}
 use Rattle.paper.specs.Choice.{◌gives◌or◌, between}
 use Rattle.paper.specs.CodeTable.{bit8, so, si}
 use Rattle.paper.specs.Sets.{space}

@@ -1,5 +1,6 @@
 -- A character that is read whole: its bytes but the last are answered with nothing yet, and the last with the character.
-use Rattle.std.proofs.Common.{◌≡◌, ℕ, ◌+◌, ◌<◌, Bool, true, false, ltb, leb, List, length, get_or, sym, refl, ap, ◌∙◌, subst, leb-false, leb-true}
+use Rattle.std.proofs.Common.{◌≡◌, ℕ, ◌+◌, ◌<◌, Bool, true, false, ltb, leb, List, length, get_or}
+use Rattle.std.proofs.Common.{sym, refl, ap, ◌∙◌, subst, leb-false, leb-true}
 use Rattle.paper.specs.Choice.{◌gives◌or◌}
 use Rattle.paper.specs.CodeTable.{form_has}
 use Rattle.paper.specs.Sets.{bytes_of, set_in}

@@ -1,5 +1,6 @@
 -- The tests of an item's first byte are those of `item_of_byte`, and ESC, which is tried before them, is a control of both forms.
-use Rattle.std.proofs.Common.{◌≡◌, ℕ, suc, ◌+◌, ◌-◌, ◌<◌, Bool, true, false, eqb, List, length, get_or, refl, ap, add-one, arith, ne_eqb, eqb-true}
+use Rattle.std.proofs.Common.{◌≡◌, ℕ, suc, ◌+◌, ◌-◌, ◌<◌, Bool, true, false, eqb, List, length, get_or}
+use Rattle.std.proofs.Common.{refl, ap, add-one, arith, ne_eqb, eqb-true}
 use borrow.Author.Tests.{lt-leb}
 use Rattle.paper.specs.CodeTable.{area_of, column_area, position_of, form_has, form_has_column, esc}
 use Rattle.paper.specs.Starting.{opening}

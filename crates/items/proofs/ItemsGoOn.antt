@@ -1,5 +1,6 @@
 -- An item is right, whatever it is: by where the reader stands and by the byte's area.
-use Rattle.std.proofs.Common.{◌≡◌, ℕ, ◌+◌, ◌-◌, ◌<◌, ◌≤◌, Bool, true, false, eqb, ◌⊎◌, List, [], length, get_or, drop, sym, refl, ap, ◌∙◌, subst, inl, inr, arith, le-ltb, lt-ltb, ne_eqb, eqb-true, le-leb}
+use Rattle.std.proofs.Common.{◌≡◌, ℕ, ◌+◌, ◌-◌, ◌<◌, ◌≤◌, Bool, true, false, eqb, ◌⊎◌, List, [], length, get_or, drop, sym, refl}
+use Rattle.std.proofs.Common.{ap, ◌∙◌, subst, inl, inr, arith, le-ltb, lt-ltb, ne_eqb, eqb-true, le-leb}
 use borrow.Author.Tests.{lt-leb}
 use Rattle.paper.specs.Choice.{◌gives◌or◌, between}
 use Rattle.paper.specs.CodeTable.{area_of, form_has, bit8, so, si, esc}
@@ -31,7 +32,8 @@ use Rattle.paper.proofs.AnswersWithoutTheRecord.{answer_of}
 use Rattle.paper.proofs.Choices.{impossible, gives_by}
 use Rattle.paper.proofs.OpeningsTakenWhole.{Elsewhere}
 use Rattle.items.specs.States.{single_in, size_in, element_of, Single, none, one, single_number, within_of, cells_of, Stands}
-use Rattle.items.specs.Items.{Item, refused, control_at, graphic_area, element_in, not_of_set_at, by_set_byte, graphic_in, graphic_at, is_control}
+use Rattle.items.specs.Items.{Item, refused, control_at, graphic_area, element_in, not_of_set_at, by_set_byte, graphic_in}
+use Rattle.items.specs.Items.{graphic_at, is_control}
 use Rattle.items.specs.Items.{control_or_sequence, item_of_byte, opens_at, item_at}
 use Rattle.items.proofs.AreasOfBytes.{c0_bound, gl_bound, c1_bound, gr_bound}
 use Rattle.items.proofs.ItemsByBytes.{WaitsOn, Good, Opens}

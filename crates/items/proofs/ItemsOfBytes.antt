@@ -1,5 +1,6 @@
 -- The items of one byte that make up most texts: a character, SPACE, a control, SI and SO, each by the tests that it passes.
-use Rattle.std.proofs.Common.{◌≡◌, ℕ, ◌+◌, ◌%◌, ◌<◌, ◌≤◌, Bool, true, false, eqb, ltb, List, [], ◌∷◌, length, get_or, refl, ap, ◌∙◌, arith, ltb-false, ltb-true, ne_eqb, eqb-true, le-leb}
+use Rattle.std.proofs.Common.{◌≡◌, ℕ, ◌+◌, ◌%◌, ◌<◌, ◌≤◌, Bool, true, false, eqb, ltb, List, [], ◌∷◌, length, get_or, refl, ap}
+use Rattle.std.proofs.Common.{◌∙◌, arith, ltb-false, ltb-true, ne_eqb, eqb-true, le-leb}
 use borrow.Author.Tests.{lt-leb}
 use Rattle.paper.specs.Choice.{◌gives◌or◌, between}
 use Rattle.paper.specs.CodeTable.{area_of, form_has, form_has_column, bit8, so, si, esc}

@@ -1,6 +1,7 @@
 -- Whether the rest of an opening stands at a place, told byte by byte: past the end of a text nothing of it does, and elsewhere the next
 -- byte must be its own.
-use Rattle.std.proofs.Common.{◌≡◌, ℕ, suc, ◌+◌, ◌-◌, ◌<◌, ◌≤◌, Bool, true, false, eqb, List, [], ◌∷◌, length, get_or, drop, refl, ap, ◌∙◌, add-one, arith, length-append, length-drop, drop_of_length-le, drop-cons, ne_eqb}
+use Rattle.std.proofs.Common.{◌≡◌, ℕ, suc, ◌+◌, ◌-◌, ◌<◌, ◌≤◌, Bool, true, false, eqb, List, [], ◌∷◌, length, get_or, drop, refl}
+use Rattle.std.proofs.Common.{ap, ◌∙◌, add-one, arith, length-append, length-drop, drop_of_length-le, drop-cons, ne_eqb}
 use Rattle.paper.specs.Choice.{◌gives◌or◌}
 use Rattle.paper.specs.Starting.{opening}
 use Rattle.paper.specs.Searching.{begins_with}

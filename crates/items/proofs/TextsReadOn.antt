@@ -1,6 +1,8 @@
 -- A text is read on from a place, by one byte at which no opening is read, or by an opening, taken whole: what is answered, refused and in the
 -- sequence from there, and how the text ends, by what follows.
-use Rattle.std.proofs.Common.{◌≡◌, ℕ, suc, ◌+◌, ◌<◌, ◌≤◌, true, false, List, [], ◌∷◌, ◌++◌, length, get_or, drop, sym, refl, ap, ◌∙◌, subst, ⊎_elim, add-zero, add-suc, suc-add, add-one, arith, length-append, length-drop, drop-cons, drop-drop}
+use Rattle.std.proofs.Common.{◌≡◌, ℕ, suc, ◌+◌, ◌<◌, ◌≤◌, true, false, List, [], ◌∷◌, ◌++◌, length, get_or, drop, sym, refl, ap}
+use Rattle.std.proofs.Common.{◌∙◌, subst, ⊎_elim, add-zero, add-suc, suc-add, add-one, arith, length-append, length-drop}
+use Rattle.std.proofs.Common.{drop-cons, drop-drop}
 use Rattle.paper.specs.Starting.{started, opening}
 use Rattle.paper.specs.Searching.{begins_with}
 use Rattle.paper.specs.Marks.{recording}
@@ -20,7 +22,8 @@ use Rattle.paper.proofs.ListsThatEnd.{begins_rest, rest_begins}
 use Rattle.paper.proofs.LawfulAnswers.{IsInStep, Leaves, in_step_lawful}
 use Rattle.paper.proofs.AnswersWithoutTheRecord.{answer_of, record_of, answers_alike, reader_alike}
 use Rattle.paper.proofs.RecordsNotCompleted.{NotBegins}
-use Rattle.paper.proofs.OpeningsTakenWhole.{with_opening, on_ground, opening_whole, reader_past_opening, Alone, byte_alone, byte_elsewhere, ShowsG1}
+use Rattle.paper.proofs.OpeningsTakenWhole.{with_opening, on_ground, opening_whole, reader_past_opening, Alone, byte_alone}
+use Rattle.paper.proofs.OpeningsTakenWhole.{byte_elsewhere, ShowsG1}
 use Rattle.paper.proofs.WhatIsReadCanBeWritten.{past, refused_after}
 use Rattle.items.proofs.ItemsByBytes.{NoRefusal}
 use Rattle.items.proofs.ItemsGoOn.{ReadsOn}

@@ -216,7 +216,8 @@ pub not_refused : (a : Answer) (at : ℕ) (later : FirstRefusal) → refusal_or 
 not_refused a at later h n e = impossible (cc (ap (refusal_or later at) e))
 
 -- an answer that can be written joins what can be written, or is left out
-pub one_more_lem : (a : Answer) (t : Sets) (l : List Entry) → left_out a ≡ false → CanBeWritten t a → InSteps (sets_with t a) l → InSteps t (given a ∷ l)
+pub one_more_lem : (a : Answer) (t : Sets) (l : List Entry) → left_out a ≡ false → CanBeWritten t a → InSteps (sets_with t a) l →
+    InSteps t (given a ∷ l)
 one_more_lem a t l stays h more = record {
   steps = said a more.steps;
   is = ap (λ (l : List Entry). given a ∷ l) more.is;

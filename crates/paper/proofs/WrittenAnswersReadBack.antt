@@ -21,9 +21,10 @@ use Rattle.paper.specs.Sequences.{function_of_ss2, function_of_ss3, c1_function,
 use Rattle.paper.specs.Characters.{says, shifts, bytes_so_far}
 use Rattle.paper.specs.Answering.{means, end_of_text}
 use Rattle.paper.specs.Results.{position_values}
-use Rattle.paper.specs.WrittenForms.{Entry, given, left_out, sequence_from, intermediates_of, function_bytes, byte_from, character_bytes, bytes_of_answer, Writer}
-use Rattle.paper.specs.WrittenForms.{Locking, none, shift_in, shift_out, locking_bytes, gl_with, before_character, before_space, locking_in_seven, written_for}
-use Rattle.paper.specs.WrittenForms.{sets_with, writer_at_start, writer_after, written_from}
+use Rattle.paper.specs.WrittenForms.{Entry, given, left_out, sequence_from, intermediates_of, function_bytes, byte_from}
+use Rattle.paper.specs.WrittenForms.{character_bytes, bytes_of_answer, Writer}
+use Rattle.paper.specs.WrittenForms.{Locking, none, shift_in, shift_out, locking_bytes, gl_with, before_character, before_space}
+use Rattle.paper.specs.WrittenForms.{locking_in_seven, written_for, sets_with, writer_at_start, writer_after, written_from}
 use Rattle.paper.proofs.Choices.{impossible}
 use Rattle.paper.proofs.WhatCanBeWritten.{AllOfSet, MayHave, CanBeWritten, Steps, ended, said, opened, entries_of, AllCanBeWritten}
 use Rattle.paper.proofs.ListsThatEnd.{tail_ends}

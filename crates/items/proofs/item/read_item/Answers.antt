@@ -3,7 +3,8 @@ use Rattle.std.proofs.Common.{sym, ◌∙◌, rules}
 use Rattle.items.proofs.FirstBytes.{at_escape, at_another_form, at_control, at_graphic}
 use Rattle.items.proofs.ItemsOfBytes.{letter_item}
 use Rattle.items.proofs.item.read_item.Goals as goal
-use Rattle.items.proofs.item.read_item.Goals.{then-taken-eq-NONE+else-byte-eq-ESC, else-taken-eq-NONE, then-taken-eq-NONE-2+else-is_control, else-taken-eq-NONE-2}
+use Rattle.items.proofs.item.read_item.Goals.{then-taken-eq-NONE+else-byte-eq-ESC, else-taken-eq-NONE}
+use Rattle.items.proofs.item.read_item.Goals.{then-taken-eq-NONE-2+else-is_control, else-taken-eq-NONE-2}
 
 pub returns-then-is_letter : goal.returns-then-is_letter
 returns-then-is_letter c = (
@@ -31,7 +32,10 @@ pub returns-then-is_control : goal.returns-then-is_control
 returns-then-is_control c = (
   c.control.ensures.0 ∙
       at_control _ _ _ _ c.if-place-text.false (sym c.single-taken.ensures ∙ c.if-taken-eq-NONE-2.true)
-      (λ e. elim c.if-taken-eq-NONE.branch [ then-taken-eq-NONE+else-byte-eq-ESC w ↦ w.if-byte-eq-ESC.false e | else-taken-eq-NONE w ↦ w.if-taken-eq-NONE.false c.if-taken-eq-NONE-2.true ])
+      (λ e. elim c.if-taken-eq-NONE.branch [
+        | then-taken-eq-NONE+else-byte-eq-ESC w ↦ w.if-byte-eq-ESC.false e
+        | else-taken-eq-NONE w ↦ w.if-taken-eq-NONE.false c.if-taken-eq-NONE-2.true
+      ])
       (sym c.form_has.ensures ∙ c.if-not-form_has.false)
       (sym c.is_control.ensures ∙ c.if-is_control.true),
   c.control.ensures.1,

@@ -40,7 +40,8 @@ returns-then-byte-le-LAST_FINAL c =
     let inside = ended.if-place-text.false in (
       (rw (c.effect_of_none-effect.ensures, c.two.ensures.0) at c.meant.ensures.0) ∙
           ends_there _ _ _ _ _ inside ended.if-byte-le-LAST_INTERMEDIATE.false ended.if-byte-le-LAST_FINAL.true ∙
-          another_byte a.form a.text.now a.place (after_escape a.form a.text.now a.place) inside (λ e. omega (arith, e, ended.if-byte-le-LAST_INTERMEDIATE.false)),
+          another_byte a.form a.text.now a.place (after_escape a.form a.text.now a.place) inside
+          (λ e. omega (arith, e, ended.if-byte-le-LAST_INTERMEDIATE.false)),
       c.meant.ensures.1,
     )
 

@@ -13,8 +13,8 @@ use Rattle.shortener.specs.Under.{under, led_by}
 use Rattle.shortener.proofs.put.put_answer.Goals as goal
 
 -- from what was chosen to what is written
-led_by_lem : (shown element chosen : ℕ) (x : Effect) (own : List ℕ) (inner outer : Piece) → element ≡ chosen → bytes_in inner ≡ under element x own →
-    bytes_in outer ≡ led_by shown element (bytes_in inner) → bytes_in outer ≡ led_by shown chosen (under chosen x own)
+led_by_lem : (shown element chosen : ℕ) (x : Effect) (own : List ℕ) (inner outer : Piece) → element ≡ chosen →
+    bytes_in inner ≡ under element x own → bytes_in outer ≡ led_by shown element (bytes_in inner) → bytes_in outer ≡ led_by shown chosen (under chosen x own)
 led_by_lem shown element chosen x own inner outer is by led =
     led ∙ ap (led_by shown element) by ∙ ap (λ (n : ℕ). led_by shown n (under n x own)) is
 
