@@ -7,118 +7,79 @@
 // so that nothing is left out unseen.
 #![tactic(auto)]
 
-use paper::{Column, Count, Kind, Located, Numbered, Row, Set};
+use paper::{Column, Count, Kind, Located, Position, Row, Set};
 use std::io;
-use std::num::wrapping_add_u32;
 
 // Columns and rows are asked up to this number, past the last that there is.
 const PAST: u8 = 20;
 
-// A number after a space.
-fn print_hex(rt: &impl Print, number: u32, width: usize) -> io::Result<()> {
-    print!(rt; " {number:0width$x}")
+const COUNTS: [Count; 3] = [Count::One, Count::Two, Count::Three];
+
+fn print_place(rt: &impl Print, set: Set, position: Position) -> io::Result<()> {
+    let Set { kind, count, last } = set;
+    let Position { column, row } = position;
+    print!(rt;
+        "{} {} {last:02x} {} {}",
+        charsets::size_of(kind),
+        charsets::bytes_of(count),
+        column.0,
+        row.0
+    )
 }
 
-fn print_decimal(rt: &impl Print, value: u32) -> io::Result<()> {
-    print!(rt; " {value}")
-}
-
-fn print_set(rt: &impl Print, set: Set) -> io::Result<()> {
-    let kind = set.kind;
-    let count = set.count;
-    rt.print(charsets::size_of(kind))?;
-    print_decimal(rt, charsets::bytes_of(count) as u32)?;
-    print_hex(rt, set.last as u32, 2)
-}
-
-fn print_position(rt: &impl Print, column: Column, row: Row) -> io::Result<()> {
-    print_decimal(rt, column.0 as u32)?;
-    print_decimal(rt, row.0 as u32)
-}
-
-fn there(rt: &impl Print, set: Set, count: Count, column: Column, row: Row) -> io::Result<()> {
-    match unicode_numbers::unicode_of(set, count, column, row) {
-        Numbered::Number(number) => {
-            print_set(rt, set)?;
-            print_position(rt, column, row)?;
-            print_hex(rt, number, 4)?;
-            rt.write_all(b"\n")
+// Every position of a set, with so many position bytes; answers how many were asked.
+fn print_positions(rt: &impl Print, set: Set, count: Count) -> io::Result<u32> {
+    let mut asked: u32 = 0;
+    for c in 0u8..PAST {
+        for r in 0u8..PAST {
+            let (column, row) = (Column(c), Row(r));
+            if let Some(number) = unicode_numbers::unicode_of(set, count, column, row) {
+                print_place(rt, set, Position { column, row })?;
+                println!(rt; " {number:04x}")?;
+            }
+            // At most 400 here and 1,843,200 in all, so no sum wraps; `+= 1` would want an invariant of each loop.
+            asked = asked.wrapping_add(1);
         }
-        Numbered::NoNumber => Ok(()),
-    }
-}
-
-fn rows(rt: &impl Print, set: Set, count: Count, column: Column) -> io::Result<u32> {
-    let mut asked: u32 = 0;
-    for row in 0u8..PAST {
-        there(rt, set, count, column, Row(row))?;
-        asked = wrapping_add_u32(asked, 1);
     }
     Ok(asked)
 }
 
-fn columns(rt: &impl Print, set: Set, count: Count) -> io::Result<u32> {
+// Every Final Byte of a size.
+fn print_sets(rt: &impl Print, kind: Kind, count: Count) -> io::Result<u32> {
     let mut asked: u32 = 0;
-    for column in 0u8..PAST {
-        asked = wrapping_add_u32(asked, rows(rt, set, count, Column(column))?);
-    }
-    Ok(asked)
-}
-
-fn position_bytes(rt: &impl Print, set: Set) -> io::Result<u32> {
-    let one = columns(rt, set, Count::One)?;
-    let two = columns(rt, set, Count::Two)?;
-    let three = columns(rt, set, Count::Three)?;
-    Ok(wrapping_add_u32(one, wrapping_add_u32(two, three)))
-}
-
-fn final_bytes(rt: &impl Print, kind: Kind, count: Count) -> io::Result<u32> {
-    let mut asked: u32 = 0;
-    for last in 0u16..256 {
-        let set = Set {
-            kind: kind,
-            count: count,
-            last: (last % 256) as u8,
-        };
-        asked = wrapping_add_u32(asked, position_bytes(rt, set)?);
-    }
-    Ok(asked)
-}
-
-fn sizes(rt: &impl Print, kind: Kind) -> io::Result<u32> {
-    let one = final_bytes(rt, kind, Count::One)?;
-    let two = final_bytes(rt, kind, Count::Two)?;
-    let three = final_bytes(rt, kind, Count::Three)?;
-    Ok(wrapping_add_u32(one, wrapping_add_u32(two, three)))
-}
-
-fn back(rt: &impl Print, number: u32) -> io::Result<()> {
-    match unicode_numbers::locate(number) {
-        Located::At(set, position) => {
-            print!(rt; "{number:04x} ")?;
-            print_set(rt, set)?;
-            let column = position.column;
-            let row = position.row;
-            print_position(rt, column, row)?;
-            rt.write_all(b"\n")
+    for last in 0u8..=255 {
+        for bytes in COUNTS {
+            asked = asked.wrapping_add(print_positions(rt, Set { kind, count, last }, bytes)?);
         }
-        Located::Nowhere => Ok(()),
     }
+    Ok(asked)
+}
+
+fn print_sizes(rt: &impl Print) -> io::Result<()> {
+    let mut asked: u32 = 0;
+    for kind in [Kind::Of94, Kind::Of96] {
+        for count in COUNTS {
+            asked = asked.wrapping_add(print_sets(rt, kind, count)?);
+        }
+    }
+    println!(rt; "{asked} positions asked")
 }
 
 // All numbers of Unicode, 0 to 10FFFF, and as many above it.
-fn numbers(rt: &impl Print) -> io::Result<u32> {
+fn print_numbers(rt: &impl Print) -> io::Result<()> {
     let mut asked: u32 = 0;
     for number in 0u32..0x220000 {
-        back(rt, number)?;
-        asked = wrapping_add_u32(asked, 1);
+        if let Some(Located { set, position }) = unicode_numbers::locate(number) {
+            print!(rt; "{number:04x} ")?;
+            print_place(rt, set, position)?;
+            println!(rt)?;
+        }
+        asked = asked.wrapping_add(1);
     }
-    Ok(asked)
+    println!(rt; "{asked} numbers asked")
 }
 
 fn main(rt: HostRuntime) -> io::Result<()> {
-    let positions = wrapping_add_u32(sizes(&rt, Kind::Of94)?, sizes(&rt, Kind::Of96)?);
-    println!(rt; "{positions} positions asked")?;
-    let all = numbers(&rt)?;
-    println!(rt; "{all} numbers asked")
+    print_sizes(&rt)?;
+    print_numbers(&rt)
 }

@@ -6,6 +6,10 @@ use Rattle.paper.specs.declared.Kind.{Kind}
 use Rattle.paper.specs.declared.Count.{Count}
 use Rattle.paper.specs.declared.Set.{Set}
 
+-- a set of one byte to a character
+abbrev pub one_byte : Kind → ℕ → Set
+one_byte kind last = record { kind = kind; count = Count.One; last = last }
+
 abbrev pub kind_number : Kind → ℕ
 kind_number Kind.Of94 = 0
 kind_number Kind.Of96 = 1

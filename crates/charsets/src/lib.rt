@@ -5,10 +5,10 @@
 ghost use Rattle.std.specs.Prelude.{◌≡◌};
 ghost use Rattle.paper.specs.Sets.{size_of, bytes_of, position_byte, set_byte, set_in, controls_in, designated};
 ghost use Rattle.paper.specs.Sets.{designated_controls};
-ghost use Rattle.paper.specs.Starting.{one_byte96, latin, greek, starting_sets};
+ghost use Rattle.paper.specs.Starting.{latin, greek, starting_sets};
 ghost use Rattle.paper.specs.Characters.{byte_in, position_in};
 ghost use Rattle.paper.specs.declared.GraphicArea.{GraphicArea};
-ghost use Rattle.charsets.specs.Sizes.{kind_of, count_of, is_one, is_of94};
+ghost use Rattle.charsets.specs.Sizes.{one_byte, kind_of, count_of, is_one, is_of94};
 
 use codetable::{BIT_8, between};
 use paper::{ControlElement, Count, Element, GraphicArea, Kind, Set, SetByte, Sets};
@@ -23,14 +23,14 @@ pub const SPACE: u8 = 0x20;
 
 pub const DELETE: u8 = 0x7F;
 
-// A set of one byte to a character, of 96 type.
-fn set_96(last: u8) -> Set
-    ensures { result ≡ one_byte96 last }
+// A set of one byte to a character.
+fn one_byte(kind: Kind, last: u8) -> Set
+    ensures { result ≡ one_byte kind last }
 {
     Set {
-        kind: Kind::Of96,
+        kind,
         count: Count::One,
-        last: last,
+        last,
     }
 }
 
@@ -38,35 +38,27 @@ fn set_96(last: u8) -> Set
 pub fn latin() -> Set
     ensures { result ≡ latin }
 {
-    Set {
-        kind: Kind::Of94,
-        count: Count::One,
-        last: LATIN_FINAL,
-    }
+    one_byte(Kind::Of94, LATIN_FINAL)
 }
 
 // 96 F 4/6, the Greek set.
 pub fn greek() -> Set
     ensures { result ≡ greek }
 {
-    set_96(GREEK_FINAL)
+    one_byte(Kind::Of96, GREEK_FINAL)
 }
 
 // What each element has at the start of a text.
 pub fn starting_sets() -> Sets
     ensures { result ≡ starting_sets }
 {
-    let g0 = latin();
-    let g1 = greek();
-    let g2 = set_96(0x41);
-    let g3 = set_96(0x4C);
     Sets {
         c0: 0x40,
         c1: 0x43,
-        g0: g0,
-        g1: g1,
-        g2: g2,
-        g3: g3,
+        g0: latin(),
+        g1: greek(),
+        g2: one_byte(Kind::Of96, 0x41),
+        g3: one_byte(Kind::Of96, 0x4C),
     }
 }
 
@@ -91,7 +83,8 @@ pub fn bytes_of(count: Count) -> u8
     }
 }
 
-// The size of a set, kind and count, in one number: twice the bytes to a character after the first, and one more for 96 type.
+// The size of a set, kind and count, in one number: twice the bytes to a character after the first, and one more for 96 type. A byte
+// and no enum: the value of a cell in a row of bytes, and `kind_of`, `count_of` and `is_one` (docs/PROMISES.md) answer for any.
 #[derive(Clone, Copy)]
 pub struct Size(pub u8);
 
@@ -139,10 +132,7 @@ pub fn is_one(size: Size) -> bool
 pub fn is_of_94(kind: Kind) -> bool
     ensures { result ≡ is_of94 kind }
 {
-    match kind {
-        Kind::Of94 => true,
-        Kind::Of96 => false,
-    }
+    kind == Kind::Of94
 }
 
 // What a byte of columns 2 to 7 is to a set of a kind.
@@ -150,17 +140,10 @@ pub fn is_of_94(kind: Kind) -> bool
 fn position_byte(kind: Kind, byte: u8) -> SetByte
     ensures { result ≡ position_byte kind byte }
 {
-    match kind {
-        Kind::Of94 => {
-            if byte == SPACE {
-                return SetByte::OfSpace;
-            }
-            if byte == DELETE {
-                return SetByte::OfDelete;
-            }
-            SetByte::OfSet
-        }
-        Kind::Of96 => SetByte::OfSet,
+    match (kind, byte) {
+        (Kind::Of94, SPACE) => SetByte::OfSpace,
+        (Kind::Of94, DELETE) => SetByte::OfDelete,
+        _ => SetByte::OfSet,
     }
 }
 
@@ -177,16 +160,15 @@ pub fn set_byte(kind: Kind, byte: u8) -> SetByte
 }
 
 // The same of a byte of GL. 2/1 to 7/14 are positions of every set and most of a text, so they are tried first.
-#[tactic(auto, unfolding(paper::specs::Characters::byte_in))]
+#[tactic(auto, using(crate::proofs::PositionsOfEverySet::position_of_set), unfolding(paper::specs::Characters::byte_in))]
 fn byte_in_gl(kind: Kind, byte: u8) -> SetByte
     ensures { result ≡ byte_in GraphicArea.GL kind byte }
 {
-    if SPACE < byte {
-        if byte < DELETE {
-            return SetByte::OfSet;
-        }
+    if SPACE < byte && byte < DELETE {
+        SetByte::OfSet
+    } else {
+        set_byte(kind, byte)
     }
-    set_byte(kind, byte)
 }
 
 // What a byte is to a set of a kind whose characters come from an area.
@@ -196,13 +178,8 @@ pub fn byte_in(area: GraphicArea, kind: Kind, byte: u8) -> SetByte
 {
     match area {
         GraphicArea::GL => byte_in_gl(kind, byte),
-        GraphicArea::GR => {
-            if BIT_8 <= byte {
-                byte_in_gl(kind, byte % BIT_8)
-            } else {
-                SetByte::Outside
-            }
-        }
+        GraphicArea::GR if BIT_8 <= byte => byte_in_gl(kind, byte % BIT_8),
+        GraphicArea::GR => SetByte::Outside,
     }
 }
 
@@ -242,36 +219,20 @@ pub fn controls_in(sets: Sets, element: ControlElement) -> u8
 pub fn designate(sets: Sets, element: Element, set: Set) -> Sets
     ensures { result ≡ designated sets element set }
 {
-    let mut next = sets;
     match element {
-        Element::G0 => {
-            next.g0 = set;
-        }
-        Element::G1 => {
-            next.g1 = set;
-        }
-        Element::G2 => {
-            next.g2 = set;
-        }
-        Element::G3 => {
-            next.g3 = set;
-        }
+        Element::G0 => Sets { g0: set, ..sets },
+        Element::G1 => Sets { g1: set, ..sets },
+        Element::G2 => Sets { g2: set, ..sets },
+        Element::G3 => Sets { g3: set, ..sets },
     }
-    next
 }
 
 // The sets with the control set of a Final Byte designated into C0 or C1.
 pub fn designate_controls(sets: Sets, element: ControlElement, last: u8) -> Sets
     ensures { result ≡ designated_controls sets element last }
 {
-    let mut next = sets;
     match element {
-        ControlElement::C0 => {
-            next.c0 = last;
-        }
-        ControlElement::C1 => {
-            next.c1 = last;
-        }
+        ControlElement::C0 => Sets { c0: last, ..sets },
+        ControlElement::C1 => Sets { c1: last, ..sets },
     }
-    next
 }

@@ -5,7 +5,7 @@ ghost use Rattle.std.specs.Prelude.{◌≡◌};
 ghost use Rattle.paper.specs.Choice.{between};
 ghost use Rattle.paper.specs.CodeTable.{byte_at, position_of, column_area, area_of, form_has_column, form_has};
 
-use paper::{Area, Column, Form, Made, Position, Row};
+use paper::{Area, Column, Form, Position, Row};
 
 // Columns and rows are numbered 0 to 15.
 const HIGHEST: u8 = 15;
@@ -29,19 +29,13 @@ pub const ESC: u8 = 0x1B;
 
 // The byte that a column and a row make.
 #[tactic(auto, using(paper::proofs::Tests::tests), unfolding(paper::specs::CodeTable::byte_at))]
-pub fn byte_at(column: Column, row: Row) -> Made
+pub fn byte_at(column: Column, row: Row) -> Option<u8>
     ensures { result ≡ byte_at column row }
 {
-    let c = column.0;
-    let r = row.0;
-    if c <= HIGHEST {
-        if r <= HIGHEST {
-            Made::Byte(16 * c + r)
-        } else {
-            Made::NoPosition
-        }
+    if column.0 <= HIGHEST && row.0 <= HIGHEST {
+        Some(16 * column.0 + row.0)
     } else {
-        Made::NoPosition
+        None
     }
 }
 
@@ -50,11 +44,9 @@ pub fn byte_at(column: Column, row: Row) -> Made
 pub fn position_of(byte: u8) -> Position
     ensures { result ≡ position_of byte }
 {
-    let column = Column(byte / 16);
-    let row = Row(byte % 16);
     Position {
-        column: column,
-        row: row,
+        column: Column(byte / 16),
+        row: Row(byte % 16),
     }
 }
 
@@ -62,26 +54,19 @@ pub fn position_of(byte: u8) -> Position
 fn column_area(column: Column) -> Area
     ensures { result ≡ column_area column }
 {
-    let number = column.0;
-    if number <= LAST_OF_C0 {
-        return Area::C0;
+    match column.0 {
+        ..=LAST_OF_C0 => Area::C0,
+        ..=LAST_OF_GL => Area::GL,
+        ..=LAST_OF_C1 => Area::C1,
+        _ => Area::GR,
     }
-    if number <= LAST_OF_GL {
-        return Area::GL;
-    }
-    if number <= LAST_OF_C1 {
-        return Area::C1;
-    }
-    Area::GR
 }
 
 // The area of a byte, by its column.
 pub fn area_of(byte: u8) -> Area
     ensures { result ≡ area_of byte }
 {
-    let position = position_of(byte);
-    let column = position.column;
-    column_area(column)
+    column_area(position_of(byte).column)
 }
 
 #[tactic(auto, unfolding(paper::specs::CodeTable::form_has_column))]
@@ -98,9 +83,7 @@ fn form_has_column(form: Form, column: Column) -> bool
 pub fn form_has(form: Form, byte: u8) -> bool
     ensures { result ≡ form_has form byte }
 {
-    let position = position_of(byte);
-    let column = position.column;
-    form_has_column(form, column)
+    form_has_column(form, position_of(byte).column)
 }
 
 // Whether a byte stands from the first to the last, both counted. Both tests are made in any case, so that a compiler can do it for
@@ -109,7 +92,5 @@ pub fn form_has(form: Form, byte: u8) -> bool
 pub fn between(first: u8, last: u8, byte: u8) -> bool
     ensures { result ≡ between first last byte }
 {
-    let low = first <= byte;
-    let high = byte <= last;
-    if low { high } else { false }
+    (first <= byte) & (byte <= last)
 }

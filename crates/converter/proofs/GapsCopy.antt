@@ -11,7 +11,7 @@ use lib.ListN.{length, get_or}
 use lib.Seq.{sets, length-sets}
 use Rattle.paper.specs.CodeTable.{form_has, bit8, so, si}
 use Rattle.paper.specs.Sets.{space}
-use Rattle.paper.specs.Results.{element_number, char_word, space_word}
+use Rattle.paper.specs.Results.{element_number}
 use Rattle.paper.specs.declared.Form.{Form}
 use Rattle.paper.specs.declared.Element.{Element}
 use Rattle.paper.proofs.Choices.{impossible, gives_by, between_bounds}
@@ -29,6 +29,8 @@ use Rattle.converter.specs.Runs.{gap_in_seven, has_gaps, space_ahead, gap_ahead,
 use Rattle.converter.proofs.PassByItems.{item_goes_on}
 use Rattle.converter.proofs.RunsGoOn.{sets_more, same_passes, plain_goes_on}
 use Rattle.converter.proofs.WaysCopy.{form_of_gr}
+use Rattle.escapes.specs.Effects.{as_word}
+use Rattle.paper.specs.Results.{char_word, space_word}
 
 -- ---- what the tests mean
 
@@ -79,13 +81,13 @@ module _ {m : Form} {text lent cells : List ℕ} {shown at place : ℕ} {buffer 
       let lowered : next % bit8 ≡ next - bit8 = omega (arith, a.low, a.high) in
       let in_gr : element_of cells next ≡ element_number Element.G1 = shown_in_gr_lem cells next (omega (arith, a.low)) ∙ g.right_is in
       let half : Passes m Form.Seven text lent cells (element_number Element.G0) (at + 2) (place + 1) (sets buffer at first) =
-      plain_goes_on p (omega (arith, a.inside)) ground space_word 0 (space ∷ []) (omega arith)
+      plain_goes_on p (omega (arith, a.inside)) ground (as_word space_word) 0 (space ∷ []) (omega arith)
       (space_item_lem m cells text place (omega (arith, a.inside)) ground a.is_space (rw (g.left_is, g.g0_is)))
       first (element_number Element.G0) (rw (is, g.g1_is)) (sets buffer at first) (length-sets buffer at first) (λ h. refl) in
       subst (λ (n : ℕ). Passes m Form.Seven text lent cells shown (at + 4) n after) there
       (subst (λ (n : ℕ). Passes m Form.Seven text lent cells shown n (place + 1 + 1) after) written
       (subst (λ (n : ℕ). Passes m Form.Seven text lent cells n (at + 2 + 2) (place + 1 + 1) after) (sym is)
-      (plain_goes_on half (omega (arith, a.inside)) ground char_word (element_of cells next) (next % bit8 ∷ []) (omega arith)
+      (plain_goes_on half (omega (arith, a.inside)) ground (as_word char_word) (element_of cells next) (next % bit8 ∷ []) (omega arith)
       (position_item m cells text (place + 1) (omega (arith, a.inside)) ground (ap (λ (f : Form). form_has f next) form ∙ eight_has next)
       (omega (arith, a.low, a.high)) (omega (arith, a.low, a.high)) (rw (in_gr, g.g1_is)))
       second (element_number Element.G1) (rw (in_gr, lowered)) after (long ∙ sym (length-sets buffer at first))

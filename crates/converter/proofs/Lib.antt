@@ -5,6 +5,7 @@ pub mod PassByItems
 pub mod PassByPieces
 pub mod PassEnds
 pub mod PassGoesOn
+pub mod PieceBytes
 pub mod RunsGoOn
 pub mod StretchEnds
 pub mod WaysCopy

@@ -12,20 +12,18 @@ use lib.Seq.{sets}
 use Rattle.paper.specs.Starting.{started, opening}
 use Rattle.paper.specs.Marks.{recording}
 use Rattle.paper.specs.Sets.{set_in}
-use Rattle.paper.specs.Results.{element_number, position_values, word_of, char_word, control_word, refused_word}
+use Rattle.paper.specs.Results.{element_number, word_of, control_word, refused_word}
 use Rattle.paper.specs.WrittenForms.{Locking, none, shift_in, shift_out, Writer, gl_with, locking, written_for, writer_after}
 use Rattle.paper.specs.Conversions.{refusal_at_end, refusal_in}
 use Rattle.paper.specs.declared.Form.{Form}
 use Rattle.paper.specs.declared.ControlElement.{ControlElement}
 use Rattle.paper.specs.declared.Element.{Element}
 use Rattle.paper.specs.declared.EndWord.{EndWord}
-use Rattle.paper.specs.declared.PositionBytes.{PositionBytes}
 use Rattle.paper.specs.declared.Reader.{Reader}
 use Rattle.paper.specs.declared.Refusal.{Refusal}
 use Rattle.paper.specs.declared.Answer.{Answer}
 use Rattle.paper.specs.declared.Answered.{Answered}
 use Rattle.paper.specs.declared.Sets.{Sets}
-use Rattle.paper.specs.declared.FirstRefusal.TheVariants.{First}
 use Rattle.paper.proofs.Choices.{impossible}
 use Rattle.paper.proofs.LawfulAnswers.{IsInStep, Leaves}
 use Rattle.paper.proofs.AnswersWithoutTheRecord.{answer_of}
@@ -34,10 +32,11 @@ use Rattle.openings.specs.InBuffers.{with_opening}
 use Rattle.refusals.specs.ByNumber.{refusal_of}
 use Rattle.refusals.proofs.RefusalsByNumber.{refusal_kept}
 use Rattle.charsets.specs.Sizes.{kind_of}
+use Rattle.escapes.specs.Effects.{word_number}
 use Rattle.items.specs.Pieces.{bytes_in, Small}
 use Rattle.items.specs.States.{size_in, changed, starting_cells}
 use Rattle.items.specs.States as states
-use Rattle.items.specs.Items.{Item, opening_word, item_at}
+use Rattle.items.specs.Items.{Item, item_at}
 use Rattle.items.proofs.BytesInANumber.{length_of_bytes}
 use Rattle.items.proofs.CharactersGoOn.{kind_in}
 use Rattle.items.proofs.ItemsByBytes.{WaitsOn, NoRefusal, said_bytes, LastByte, Stopped, refused_at, ends_inside_at, Opens, Good}
@@ -50,6 +49,9 @@ use Rattle.converter.proofs.MostFiveBytes.{at_most_five}
 use Rattle.converter.proofs.PassGoesOn.{passing_starts, passing_goes_on, passing_refused, passing_ends, opening_within}
 use Rattle.converter.proofs.PassGoesOn.{passing_opens}
 use Rattle.converter.proofs.WritesAnswers.{writes_answer}
+use Rattle.std.specs.Prelude.{Some}
+use Rattle.paper.specs.Refusals.{refusal_at}
+use Rattle.escapes.specs.Effects.{opening_word}
 
 pub passes_start : (m to : Form) (text lent : List ℕ) → Passes m to text lent starting_cells (element_number Element.G0) 0 0 lent
 passes_start m to text lent = record {
@@ -78,25 +80,6 @@ two_again shift_in gl two = tt
 two_again shift_out gl two = tt
 
 -- ---- how many bytes an item has
-
-few_positions : (p : PositionBytes) → (1 ≤ length (position_values p)) × (length (position_values p) ≤ 3)
-few_positions (PositionBytes.One a) = (omega arith, omega arith)
-few_positions (PositionBytes.Two a b) = (omega arith, omega arith)
-few_positions (PositionBytes.Three a b c) = (omega arith, omega arith)
-
-few_of_character : (a : Answer) → word_of a ≡ char_word → (1 ≤ length (said_bytes a)) × (length (said_bytes a) ≤ 3)
-few_of_character Answer.NothingYet e = absurd (omega arith)
-few_of_character (Answer.Char x s p) e = few_positions p
-few_of_character Answer.Space e = absurd (omega arith)
-few_of_character Answer.Delete e = absurd (omega arith)
-few_of_character (Answer.Control v f n) e = absurd (omega arith)
-few_of_character (Answer.DesignateControls v f) e = absurd (omega arith)
-few_of_character (Answer.Designate x s) e = absurd (omega arith)
-few_of_character (Answer.Shift h) e = absurd (omega arith)
-few_of_character (Answer.Other s f) e = absurd (omega arith)
-few_of_character (Answer.Refused n) e = absurd (omega arith)
-few_of_character Answer.Skipped e = absurd (omega arith)
-few_of_character (Answer.InStep n) e = absurd (omega arith)
 
 one_of_control : (a : Answer) → word_of a ≡ control_word → length (said_bytes a) ≡ 1
 one_of_control Answer.NothingYet e = absurd (omega arith)
@@ -166,17 +149,17 @@ module _ (m to : Form) (text lent : List ℕ) (gl : Element) (at : ℕ) (buffer 
       (subst (λ (n : ℕ). Passing m to text lent next gl n (place + 1) buffer) (add-zero at) on, inl elsewhere)
 
   stopped_refuses : {start : ℕ} {i : Item} → Stopped text Unwritten start i →
-      refusal_in m text ≡ First (refusal_of i.effect.value) i.place
+      refusal_in m text ≡ Some (refusal_at (refusal_of i.effect.value) i.place)
   stopped_refuses {start} {i} (refused_at n there is r) =
       passing_refused r.holds.0 r.inside n (ap (λ (a : Answered). a.answer) r.answers) ∙
-      ap (λ (x : Refusal). First x there) (sym (refusal_kept n)) ∙
-      ap (λ (x : Item). First (refusal_of x.effect.value) x.place) (sym is)
+      ap (λ (x : Refusal). Some (refusal_at x there)) (sym (refusal_kept n)) ∙
+      ap (λ (x : Item). Some (refusal_at (refusal_of x.effect.value) x.place)) (sym is)
   stopped_refuses {start} {i} (ends_inside_at there is r) =
       (passing_ends r.holds.0 (omega (arith, r.at_end))).0 ∙
       ap (λ (x : EndWord). refusal_at_end x (length text)) r.end ∙
-      ap (λ (n : ℕ). First Refusal.EndsInside n) (sym r.at_end) ∙
-      ap (λ (x : Refusal). First x there) (sym (refusal_kept Refusal.EndsInside)) ∙
-      ap (λ (x : Item). First (refusal_of x.effect.value) x.place) (sym is)
+      ap (λ (n : ℕ). Some (refusal_at Refusal.EndsInside n)) (sym r.at_end) ∙
+      ap (λ (x : Refusal). Some (refusal_at x there)) (sym (refusal_kept Refusal.EndsInside)) ∙
+      ap (λ (x : Item). Some (refusal_at (refusal_of x.effect.value) x.place)) (sym is)
 
 module _ {m to : Form} {text lent cells : List ℕ} {shown at place : ℕ} {buffer : List ℕ}
     (p : Passes m to text lent cells shown at place buffer) where
@@ -205,22 +188,22 @@ module _ {m to : Form} {text lent cells : List ℕ} {shown at place : ℕ} {buff
         (items_go_on m text Here (waits_on m to text lent p.gl at buffer) p.reader cells place (λ reads. (p.passing, reads)) p.stands
         p.passing.form inside)
 
-    opening_word_lem : Opened → i.effect.word.0 ≡ opening_word
-    opening_word_lem o = ap (λ (x : Item). x.effect.word.0) o.is
+    opening_word_lem : Opened → word_number i.effect.word ≡ opening_word
+    opening_word_lem o = ap (λ (x : Item). word_number x.effect.word) o.is
 
     -- an item that stops
-    pub item_refused : i.effect.word.0 ≡ refused_word → refusal_in m text ≡ First (refusal_of i.effect.value) i.place
+    pub item_refused : word_number i.effect.word ≡ refused_word → refusal_in m text ≡ Some (refusal_at (refusal_of i.effect.value) i.place)
     item_refused stop = ⊎_elim
         (λ o. absurd (omega (arith, opening_word_lem o, stop)))
         (λ good. stopped_refuses m to text lent p.gl at buffer (good_stops good stop))
         whole_or_good
 
     -- an opening
-    module _ (neither : (i.effect.word.0 < refused_word → ⊥) × (i.effect.word.0 ≡ refused_word → ⊥)) where
+    module _ (neither : (word_number i.effect.word < refused_word → ⊥) × (word_number i.effect.word ≡ refused_word → ⊥)) where
       opened : Opened
       opened = ⊎_elim (λ o. o) (λ good. absurd (neither.0 (reads_below (good_reads good neither.1)))) whole_or_good
         where
-          reads_below : LastByte text Here place p.reader.sets cells i → i.effect.word.0 < refused_word
+          reads_below : LastByte text Here place p.reader.sets cells i → word_number i.effect.word < refused_word
           reads_below l = rw l.word_is
               (answer_below l.reader (get_or text l.place 0) l.answer l.next l.holds.0.in_step l.answers l.no_refusal)
 
@@ -246,7 +229,7 @@ module _ {m to : Form} {text lent cells : List ℕ} {shown at place : ℕ} {buff
       }
 
     -- one that is written
-    module _ (goes : i.effect.word.0 < refused_word) where
+    module _ (goes : word_number i.effect.word < refused_word) where
       last : LastByte text Here place p.reader.sets cells i
       last = ⊎_elim
           (λ o. absurd (omega (arith, opening_word_lem o, goes)))
@@ -260,8 +243,6 @@ module _ {m to : Form} {text lent cells : List ℕ} {shown at place : ℕ} {buff
       item_writable piece are small =
           let long = sym (length_of_bytes piece) ∙ ap length are ∙ ap length last.bytes_are in record {
             small = small;
-            of_character = λ e. let few = few_of_character last.answer (sym last.word_is ∙ e) in
-                (omega (arith, few, long), omega (arith, few, long));
             of_control = λ e. long ∙ one_of_control last.answer (sym last.word_is ∙ e);
           }
 

@@ -7,8 +7,9 @@ use native.Mathlib.Omega.{arith}
 use lib.ListN.{length, get_or}
 use lib.Seq.{sets}
 use Rattle.paper.specs.CodeTable.{bit8}
-use Rattle.paper.specs.Results.{char_word, refused_word}
+use Rattle.paper.specs.Results.{refused_word}
 use Rattle.paper.specs.declared.Form.{Form}
+use Rattle.escapes.specs.Effects.{word_number}
 use Rattle.items.specs.Pieces.{bytes_in}
 use Rattle.items.specs.States.{element_of, changed}
 use Rattle.items.specs.Items.{Item, character_of, item_at}
@@ -21,10 +22,12 @@ use Rattle.converter.specs.Writing.{Wrote, wrote_of, character_in, writes}
 use Rattle.converter.specs.declared.written.Written.{Written}
 use Rattle.converter.proofs.PassByItems.{item_is_small, item_goes_on}
 use Rattle.converter.proofs.RunsGoOn.{same_passes}
+use Rattle.escapes.specs.Effects.{as_word}
+use Rattle.paper.specs.Results.{char_word}
 
 module _ {m to : Form} {text lent cells : List ℕ} {shown at place : ℕ} {buffer : List ℕ}
     (p : Passes m to text lent cells shown at place buffer) (inside : place < length text) where
-  module _ (i : Item) (is : item_at m cells text place ≡ i) (goes : i.effect.word.0 < refused_word) (w : Written)
+  module _ (i : Item) (is : item_at m cells text place ≡ i) (goes : word_number i.effect.word < refused_word) (w : Written)
       (wrote : wrote_of w ≡ writes to shown cells i.effect i.bytes) where
     pub piece_is_small : w.piece.count ≤ 5
     piece_is_small =
@@ -57,5 +60,5 @@ module _ {m to : Form} {text lent cells : List ℕ} {shown at place : ℕ} {buff
         (at + w.piece.count ≤ length lent → after ≡ sets buffer at (bytes_in w.piece)) →
         Passes m to text lent cells w.shown.0 (at + w.piece.count) (place + 1) after
     letter_goes_on after as_long stored =
-        same_passes (plain_same p.stands (letter_is m cells _ letter).ground char_word (element_of cells (get_or text place 0)))
+        same_passes (plain_same p.stands (letter_is m cells _ letter).ground (as_word char_word) (element_of cells (get_or text place 0)))
         (piece_goes_on character (letter_item m cells text place inside letter) (omega arith) w wrote_it after as_long stored)

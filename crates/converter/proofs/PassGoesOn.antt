@@ -24,8 +24,6 @@ use Rattle.paper.specs.declared.Standing.{Standing}
 use Rattle.paper.specs.declared.Reader.{Reader}
 use Rattle.paper.specs.declared.Refusal.{Refusal}
 use Rattle.paper.specs.declared.Answer.{Answer}
-use Rattle.paper.specs.declared.FirstRefusal.{FirstRefusal}
-use Rattle.paper.specs.declared.FirstRefusal.TheVariants.{First}
 use Rattle.paper.proofs.LawfulAnswers.{IsInStep}
 use Rattle.paper.proofs.AnswersWithoutTheRecord.{answer_of}
 use Rattle.paper.proofs.RecordsNotCompleted.{form_of}
@@ -38,6 +36,9 @@ use Rattle.items.proofs.TextsReadOn.{in_step_on, rest, alone, first_here, end_he
 use Rattle.items.proofs.TextsReadOn as texts
 use Rattle.converter.specs.Passing.{beside, rest_from, refusal_from, Passing}
 use Rattle.items.proofs.OverTheBuffer.{over_more}
+use Rattle.std.specs.Prelude.{Option, Some}
+use Rattle.paper.specs.Refusals.{refusal_at}
+use Rattle.paper.specs.declared.Refused.{Refused}
 
 pub passing_starts : (m to : Form) (text lent : List ℕ) → Passing m to text lent (started m) Element.G0 0 0 lent
 passing_starts m to text lent = record {
@@ -55,7 +56,7 @@ passing_starts m to text lent = record {
 
 -- ---- answers that are no refusals
 
-later_refusal : (a : Answer) (later : FirstRefusal) (at : ℕ) → NoRefusal a → refusal_or later at a ≡ later
+later_refusal : (a : Answer) (later : Option Refused) (at : ℕ) → NoRefusal a → refusal_or later at a ≡ later
 later_refusal Answer.NothingYet later at h = refl
 later_refusal (Answer.Char e x p) later at h = refl
 later_refusal Answer.Space later at h = refl
@@ -90,7 +91,7 @@ module _ (text : List ℕ) (r : Reader) (place : ℕ) (inside : place < length t
   refusal_here =
       ap (λ (l : List ℕ). first_of (first_refusal (answers_from place r l)) (refusal_at_end (end_of_text (reader_after r l)) (length text)))
       (rest text r place inside) ∙
-      ap (λ (f : FirstRefusal). first_of f (refusal_at_end (end_of_text (reader_after r (here ∷ more))) (length text))) (first_here text r place inside) ∙
+      ap (λ (f : Option Refused). first_of f (refusal_at_end (end_of_text (reader_after r (here ∷ more))) (length text))) (first_here text r place inside) ∙
       ap (λ (e : EndWord). first_of (refusal_or (first_refusal (answers_from (place + 1) next more)) place said)
       (refusal_at_end e (length text))) (end_here text r place inside)
 
@@ -98,7 +99,7 @@ module _ (text : List ℕ) (r : Reader) (place : ℕ) (inside : place < length t
   refusal_later no_refusal =
       let later = first_refusal (answers_from (place + 1) next more) in
       refusal_here ∙
-      ap (λ (f : FirstRefusal). first_of f (refusal_at_end (end_of_text (reader_after next more)) (length text)))
+      ap (λ (f : Option Refused). first_of f (refusal_at_end (end_of_text (reader_after next more)) (length text)))
       (later_refusal said later place no_refusal)
 
   written_here : (to : Form) (gl : Element) → IsInStep r.standing → ReadsOn r.form text r place →
@@ -164,12 +165,12 @@ module _ {m to : Form} {text lent : List ℕ} {r : Reader} {gl : Element} {at pl
       as-long-as stored
 
   pub passing_refused : (inside : place < length text) (n : Refusal) →
-      (answer_of r (get_or text place 0)).answer ≡ Answer.Refused n → refusal_in m text ≡ First n place
+      (answer_of r (get_or text place 0)).answer ≡ Answer.Refused n → refusal_in m text ≡ Some (refusal_at n place)
   passing_refused inside n e =
       let b = get_or text place 0 in
       let next : Reader = (answer_of r b).reader in
-      let later : FirstRefusal = first_refusal (answers_from (place + 1) next (drop (place + 1) text)) in
-      let end : FirstRefusal = refusal_at_end (end_of_text (reader_after next (drop (place + 1) text))) (length text) in
+      let later : Option Refused = first_refusal (answers_from (place + 1) next (drop (place + 1) text)) in
+      let end : Option Refused = refusal_at_end (end_of_text (reader_after next (drop (place + 1) text))) (length text) in
       sym p.refused ∙ refusal_here text r place inside ∙ ap (λ (a : Answer). first_of (refusal_or later place a) end) e
 
   -- at the end of the text
@@ -203,7 +204,7 @@ module _ {m to : Form} {text lent : List ℕ} {r : Reader} {gl : Element} {at pl
 
   refusal_after : refusal_from r place text ≡ refusal_from (started m) there text
   refusal_after =
-      ap (λ (f : FirstRefusal). first_of f (refusal_at_end (end_of_text (reader_after r (drop place text))) (length text)))
+      ap (λ (f : Option Refused). first_of f (refusal_at_end (end_of_text (reader_after r (drop place text))) (length text)))
       (first_after m text r place p.form p.shows ground begins) ∙
       ap (λ (e : EndWord). first_of (first_refusal (answers_from there (started m) (drop there text))) (refusal_at_end e (length text)))
       (end_after_lem m text r place p.form p.shows ground begins)

@@ -6,12 +6,15 @@ use mathlib.Core.List.{List, [], ◌∷◌, ◌++◌}
 use native.Mathlib.Nat.{add-zero, add-suc, suc-add}
 use native.Mathlib.Numerals.{add-one}
 use native.Mathlib.Omega.{arith}
-use lib.ListN.{length, length-append, get_or, set}
+use lib.ListN.{length, length-append, get_or, set, take, drop}
 use lib.Seq.{sets, length-sets}
+use Rattle.std.proofs.lemmas.List.{length-map, length-take-le, length-drop, get_or-drop, map_more}
 use Rattle.paper.specs.Conversions.{output}
 use Rattle.paper.specs.Results.{refused_word}
 use Rattle.paper.specs.declared.Form.{Form}
 use Rattle.escapes.specs.Effects.{plain}
+use Rattle.escapes.specs.Effects.{word_number}
+use Rattle.escapes.specs.declared.effect.Word.{Word}
 use Rattle.items.specs.States.{single_in, changed}
 use Rattle.items.specs.Items.{item_at}
 use Rattle.items.proofs.StatesKept.{Same, same_stands, plain_same}
@@ -30,22 +33,24 @@ sets_more l i (b ∷ bytes) more =
     sets_more (set l i b) (suc i) bytes more ∙
     ap (λ (n : ℕ). sets (sets (set l i b) (suc i) bytes) n more) (suc-add i (length bytes) ∙ sym (add-suc i (length bytes)))
 
-copied_length : (way : Way) (text : List ℕ) (place n : ℕ) → length (copied_bytes way text place n) ≡ n
-copied_length way text place zero = refl
-copied_length way text place (suc n) =
-    length-append (copied_bytes way text place n) (copied_by way (get_or text (place + n) 0) ∷ []) ∙
-    ap (λ (k : ℕ). k + 1) (copied_length way text place n) ∙
-    add-one n
+copied_length : (way : Way) (text : List ℕ) (place n : ℕ) → place + n ≤ length text → length (copied_bytes way text place n) ≡ n
+copied_length way text place n inside =
+    length-map (take n (drop place text)) (copied_by way) ∙ length-take-le n (drop place text) (omega (arith, length-drop place text))
 
 -- one byte more
-copied_more : (way : Way) (text buffer : List ℕ) (place at n : ℕ) →
+copied_more : (way : Way) (text buffer : List ℕ) (place at n : ℕ) → place + n < length text →
     set (sets buffer at (copied_bytes way text place n)) (at + n) (copied_by way (get_or text (place + n) 0)) ≡
     sets buffer at (copied_bytes way text place (suc n))
-copied_more way text buffer place at n =
+copied_more way text buffer place at n inside =
     let bytes = copied_bytes way text place n in
     let copy = copied_by way (get_or text (place + n) 0) in
-    ap (λ (k : ℕ). set (sets buffer at bytes) (at + k) copy) (sym (copied_length way text place n)) ∙
-    sym (sets_more buffer at bytes (copy ∷ []))
+    let more : copied_bytes way text place (suc n) ≡ bytes ++ (copy ∷ []) =
+    ap (λ (k : ℕ). copied_bytes way text place k) (sym (add-one n)) ∙
+    map_more (copied_by way) (drop place text) n 0 (omega (arith, length-drop place text)) ∙
+    ap (λ (b : ℕ). bytes ++ (copied_by way b ∷ [])) (get_or-drop place text n 0) in
+    ap (λ (k : ℕ). set (sets buffer at bytes) (at + k) copy) (sym (copied_length way text place n (omega arith))) ∙
+    sym (sets_more buffer at bytes (copy ∷ [])) ∙
+    ap (sets buffer at) (sym more)
 
 -- ---- a pass goes on
 
@@ -91,8 +96,8 @@ module _ {m to : Form} {text lent : List ℕ} {shown at place : ℕ} {buffer : L
 
 -- an item that changes nothing, for which these bytes are written
 pub plain_goes_on : {m to : Form} {text lent cells : List ℕ} {shown at place : ℕ} {buffer : List ℕ} →
-    Passes m to text lent cells shown at place buffer → place < length text → single_in cells ≡ 0 → (word value : ℕ) (bytes : List ℕ) →
-    word < refused_word → item_at m cells text place ≡ record { effect = plain word value; bytes = bytes; place = place + 1 } →
+    Passes m to text lent cells shown at place buffer → place < length text → single_in cells ≡ 0 → (word : Word) (value : ℕ) (bytes : List ℕ) →
+    word_number word < refused_word → item_at m cells text place ≡ record { effect = plain word value; bytes = bytes; place = place + 1 } →
     (out : List ℕ) (then : ℕ) → writes to shown cells (plain word value) bytes ≡ alone out then →
     (after : List ℕ) → length after ≡ length buffer → (at + length out ≤ length lent → after ≡ sets buffer at out) →
     Passes m to text lent cells then (at + length out) (place + 1) after
@@ -133,4 +138,4 @@ module _ {m to : Form} {text lent cells : List ℕ} {shown : ℕ} {way : Way} (c
       subst (λ (k : ℕ). Passes m to text lent cells shown k (place + suc n) after) (sym r)
       (subst (λ (k : ℕ). Passes m to text lent cells shown (at + n + 1) k after) (sym q)
       (byte_goes_on (omega arith) (passed n (omega arith)) before after (long ∙ sym (length-sets buffer at bytes))
-      (λ h. stored (omega arith) ∙ sym (copied_more way text buffer place at n))))
+      (λ h. stored (omega arith) ∙ sym (copied_more way text buffer place at n (omega arith)))))

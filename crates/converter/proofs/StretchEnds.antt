@@ -10,23 +10,27 @@ use lib.ListN.{length}
 use Rattle.paper.specs.Choice.{◌gives◌or◌}
 use Rattle.paper.specs.Results.{refused_word}
 use Rattle.paper.specs.declared.Form.{Form}
-use Rattle.paper.specs.declared.Converted.{Converted}
 use Rattle.refusals.specs.ByNumber.{refusal_of}
+use Rattle.escapes.specs.Effects.{word_number}
 use Rattle.items.specs.Items.{Item, item_at}
 use Rattle.converter.specs.Passing.{Passes}
 use Rattle.converter.specs.Stretches.{stops_by, Onward, Ends}
 use Rattle.converter.specs.declared.stretch.Ending.{Ending}
 use Rattle.converter.proofs.PassByItems.{item_refused, opening_onward, opening_goes_on}
 use Rattle.converter.proofs.PassEnds.{refused_promised}
+use Rattle.std.specs.Prelude.{Some, Result, Ok, Err}
+use Rattle.paper.specs.Refusals.{refusal_at}
+use Rattle.paper.specs.declared.Refused.{Refused}
 
 module _ {m to : Form} {text lent cells : List ℕ} {shown at place : ℕ} {buffer : List ℕ}
     (p : Passes m to text lent cells shown at place buffer) (inside : place < length text) (i : Item) (is : item_at m cells text place ≡ i)
-    (stops : refused_word ≤ i.effect.word.0) where
+    (stops : refused_word ≤ word_number i.effect.word) where
   abbrev word : ℕ
-  word = i.effect.word.0
+  word = word_number i.effect.word
 
-  abbrev ending : Bool → Ending
-  ending refused = refused gives Ending.Over (Converted.Refused (refusal_of i.effect.value) i.place) or Ending.Opens i.place at
+  abbrev ending : Bool → Result Ending Refused
+  ending refused =
+      refused gives Err (refusal_at (refusal_of i.effect.value) i.place) or Ok (record { at = at; next = Some i.place })
 
   neither : eqb word refused_word ≡ false → (word < refused_word → ⊥) × (word ≡ refused_word → ⊥)
   neither other = (λ less. absurd (omega (arith, less, stops)), eqb-false word refused_word other)

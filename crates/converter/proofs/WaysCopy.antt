@@ -12,7 +12,7 @@ use lib.ListN.{length, get_or}
 use Rattle.paper.specs.Choice.{between}
 use Rattle.paper.specs.CodeTable.{form_has, bit8}
 use Rattle.paper.specs.Sets.{space, delete}
-use Rattle.paper.specs.Results.{element_number, char_word, space_word, control_word}
+use Rattle.paper.specs.Results.{element_number}
 use Rattle.paper.specs.declared.Form.{Form}
 use Rattle.paper.specs.declared.Kind.{Kind}
 use Rattle.paper.specs.declared.Kind.TheVariants.{Of94, Of96}
@@ -34,6 +34,8 @@ use Rattle.converter.specs.Writing.{alone, shifted_to, in_seven, in_eight, under
 use Rattle.converter.specs.Runs.{low_as_it_is, low_raised, high_lowered, way_of, copied_by, Copied, Copies, in_one_byte}
 use Rattle.converter.specs.declared.run.Way.{Way}
 use Rattle.converter.proofs.WritesAnswers.{control_of_c0}
+use Rattle.escapes.specs.Effects.{as_word}
+use Rattle.paper.specs.Results.{char_word, space_word, control_word}
 
 -- ---- what is copied
 
@@ -112,7 +114,7 @@ module _ (m to : Form) (cells text : List ℕ) (ground : single_in cells ≡ 0) 
   copied : (way : Way) (place : ℕ) → Ways way place → LaneItem m cells text place → Copied m to cells shown text way place
   unfolding writes
   copied way place w (control low reads) = record {
-    word = control_word;
+    word = (as_word control_word);
     value = get_or text place 0;
     bytes = get_or text place 0 ∷ [];
     below = omega arith;
@@ -121,7 +123,7 @@ module _ (m to : Form) (cells text : List ℕ) (ground : single_in cells ≡ 0) 
         control_of_c0 to (get_or text place 0) shown (omega arith) ∙ ap (λ (n : ℕ). alone (n ∷ []) shown) (sym (w.of_control low));
   }
   copied way place w (space_sign is kind reads) = record {
-    word = space_word;
+    word = (as_word space_word);
     value = 0;
     bytes = space ∷ [];
     below = omega arith;
@@ -129,7 +131,7 @@ module _ (m to : Form) (cells text : List ℕ) (ground : single_in cells ≡ 0) 
     wrote = w.of_space is kind;
   }
   copied way place w (character c) = record {
-    word = char_word;
+    word = (as_word char_word);
     value = element_of cells (get_or text place 0);
     bytes = get_or text place 0 % bit8 ∷ [];
     below = omega arith;

@@ -18,6 +18,7 @@ use Rattle.paper.specs.declared.GraphicArea.{GraphicArea}
 use Rattle.paper.specs.declared.Answer.{Answer}
 use Rattle.charsets.specs.Sizes.{kind_of}
 use Rattle.escapes.specs.declared.effect.Effect.{Effect}
+use Rattle.escapes.specs.Effects.{word_number}
 use Rattle.items.specs.States.{size_in}
 use Rattle.items.proofs.ItemsByBytes.{said_bytes, Said}
 use Rattle.converter.specs.Writing.{alone, shifted_to, in_seven, in_eight, under_kind, control_in, writes}
@@ -76,7 +77,7 @@ module _ (w : Writer) (cells : List ℕ) (kinds : kind_of (size_in cells (elemen
   abbrev As : Form → Answer → Type 0
   As to a = writes to (element_number w.gl) cells x bytes ≡ alone (written_for to w a) (element_number (writer_after to w a).gl)
 
-  in_seven_lem : (a : Answer) → x.word.0 ≡ word_of a → bytes ≡ said_bytes a → Said a x.value → As Form.Seven a
+  in_seven_lem : (a : Answer) → word_number x.word ≡ word_of a → bytes ≡ said_bytes a → Said a x.value → As Form.Seven a
   unfolding writes control_in
   in_seven_lem Answer.NothingYet word are said = rw (word, are)
   in_seven_lem (Answer.Char e s p) word are said =
@@ -95,7 +96,7 @@ module _ (w : Writer) (cells : List ℕ) (kinds : kind_of (size_in cells (elemen
   in_seven_lem Answer.Skipped word are said = rw (word, are)
   in_seven_lem (Answer.InStep n) word are said = rw (word, are)
 
-  in_eight_lem : (a : Answer) → x.word.0 ≡ word_of a → bytes ≡ said_bytes a → Said a x.value → As Form.Eight a
+  in_eight_lem : (a : Answer) → word_number x.word ≡ word_of a → bytes ≡ said_bytes a → Said a x.value → As Form.Eight a
   unfolding writes control_in
   in_eight_lem Answer.NothingYet word are said = rw (word, are)
   in_eight_lem (Answer.Char e s p) word are said = rw (word, are, said) (character_in_eight e w.gl (position_values p))
@@ -110,7 +111,7 @@ module _ (w : Writer) (cells : List ℕ) (kinds : kind_of (size_in cells (elemen
   in_eight_lem Answer.Skipped word are said = rw (word, are)
   in_eight_lem (Answer.InStep n) word are said = rw (word, are)
 
-  pub writes_answer : (to : Form) (a : Answer) → x.word.0 ≡ word_of a → bytes ≡ said_bytes a → Said a x.value →
+  pub writes_answer : (to : Form) (a : Answer) → word_number x.word ≡ word_of a → bytes ≡ said_bytes a → Said a x.value →
       writes to (element_number w.gl) cells x bytes ≡ alone (written_for to w a) (element_number (writer_after to w a).gl)
   writes_answer Form.Seven a = in_seven_lem a
   writes_answer Form.Eight a = in_eight_lem a

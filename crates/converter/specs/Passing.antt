@@ -1,7 +1,7 @@
 -- No rule of the paper: for the contracts of private functions.
 -- At a place of a pass: what is left to read gives the rest of the output and the refusal of the whole text; what was written so far
 -- stands at the beginning of the buffer, where that has room for the whole output.
-use Rattle.std.specs.Prelude.{ℕ, ◌≤◌, ◌≡◌, List, ◌++◌, length, drop}
+use Rattle.std.specs.Prelude.{ℕ, ◌≤◌, ◌≡◌, List, ◌++◌, length, drop, Option}
 use Rattle.paper.specs.Marks.{recording}
 use Rattle.paper.specs.Answering.{end_of_text}
 use Rattle.paper.specs.Texts.{reader_after, answers_from}
@@ -13,10 +13,10 @@ use Rattle.paper.specs.Conversions.{refusal_at_end, refusal_in, output}
 use Rattle.paper.specs.declared.Form.{Form}
 use Rattle.paper.specs.declared.Element.{Element}
 use Rattle.paper.specs.declared.Reader.{Reader}
-use Rattle.paper.specs.declared.FirstRefusal.{FirstRefusal}
 use Rattle.paper.proofs.LawfulAnswers.{IsInStep}
 use Rattle.paper.proofs.OpeningsTakenWhole.{ShowsG1}
 use Rattle.items.specs.States.{Stands}
+use Rattle.paper.specs.declared.Refused.{Refused}
 
 -- the writer beside a reader has the reader's sets
 abbrev pub beside : Reader → Element → Writer
@@ -26,7 +26,7 @@ beside r gl = record { sets = r.sets; gl = gl }
 abbrev pub rest_from : Form → Reader → Element → ℕ → List ℕ → List ℕ
 rest_from to r gl place text = written_from to (beside r gl) (sequence_from (recording 0 r) (drop place text))
 
-abbrev pub refusal_from : Reader → ℕ → List ℕ → FirstRefusal
+abbrev pub refusal_from : Reader → ℕ → List ℕ → Option Refused
 refusal_from r place text =
     first_of (first_refusal (answers_from place r (drop place text)))
     (refusal_at_end (end_of_text (reader_after r (drop place text))) (length text))

@@ -1,6 +1,6 @@
 -- No rule of the paper: for the contracts of private functions.
 -- The lane of a conversion: which bytes pass, and how they are written; and what stands between words for a space.
-use Rattle.std.specs.Prelude.{ℕ, zero, suc, ◌+◌, ◌-◌, ◌<◌, ◌≡◌, Bool, true, false, List, [], ◌∷◌, ◌++◌}
+use Rattle.std.specs.Prelude.{ℕ, ◌+◌, ◌-◌, ◌<◌, ◌≡◌, Bool, true, false, List, [], ◌∷◌, map, take, drop}
 use Rattle.std.specs.Prelude.{ltb, leb, eqb, length, get_or}
 use Rattle.paper.specs.Choice.{◌gives◌or◌, between}
 use Rattle.paper.specs.CodeTable.{bit8, so, si}
@@ -12,6 +12,8 @@ use Rattle.paper.specs.declared.Count.{Count}
 use Rattle.paper.specs.declared.Element.{Element}
 use Rattle.charsets.specs.Sizes.{size_number, kind_of}
 use Rattle.escapes.specs.Effects.{plain}
+use Rattle.escapes.specs.Effects.{word_number}
+use Rattle.escapes.specs.declared.effect.Word.{Word}
 use Rattle.items.specs.States.{left_in, right_in, size_in, element_of}
 use Rattle.items.specs.Items.{item_at}
 use Rattle.items.specs.Letters.{is_letter}
@@ -20,7 +22,6 @@ use Rattle.lane.specs.Lanes.{first_position, last_position, first_of_none, last_
 use Rattle.lane.specs.Gaps as lane
 use Rattle.converter.specs.Writing.{alone, writes}
 use Rattle.converter.specs.declared.run.Way.{Way}
-use Rattle.converter.specs.declared.run.Run.{Run}
 
 -- bytes of GL as they are; no byte stands within the bounds
 abbrev pub low_as_it_is : Way
@@ -45,15 +46,14 @@ copied_by way b = between way.first way.last b gives (ltb b bit8 gives b + bit8 
 
 -- so many bytes from a place on
 abbrev pub copied_bytes : Way → List ℕ → ℕ → ℕ → List ℕ
-copied_bytes way text place zero = []
-copied_bytes way text place (suc n) = copied_bytes way text place n ++ (copied_by way (get_or text (place + n) 0) ∷ [])
+copied_bytes way text place n = map (copied_by way) (take n (drop place text))
 
 -- a byte that is an item which changes nothing, and is written as its copy
 pub record Copied (m to : Form) (cells : List ℕ) (shown : ℕ) (text : List ℕ) (way : Way) (place : ℕ) : Type 0 where
-  pub word : ℕ
+  pub word : Word
   pub value : ℕ
   pub bytes : List ℕ
-  pub below : word < refused_word
+  pub below : word_number word < refused_word
   pub reads : item_at m cells text place ≡ record { effect = plain word value; bytes = bytes; place = place + 1 }
   pub wrote : writes to shown cells (plain word value) bytes ≡ alone (copied_by way (get_or text place 0) ∷ []) shown
 
@@ -110,7 +110,3 @@ in_one_byte Form.Eight shown element b = ltb b bit8 gives ltb element (element_n
 pub record Begins (m to : Form) (cells : List ℕ) (shown b : ℕ) : Type 0 where
   pub letter : is_letter m cells b ≡ true
   pub short : in_one_byte to shown (element_of cells b) b ≡ true
-
--- where a run ends
-abbrev pub run_to : ℕ → ℕ → Run
-run_to place at = record { place = place; at = at }

@@ -1,7 +1,7 @@
 -- No rule of the paper: for the contracts of private functions.
 -- What is written for an item in a form, where GL shows an element in the output: its bytes, and what GL shows then. Elements have the
 -- paper's numbers.
-use Rattle.std.specs.Prelude.{ℕ, ◌-◌, ◌≤◌, ◌≡◌, List, [], ◌∷◌, ◌++◌, map, ltb, eqb, get_or}
+use Rattle.std.specs.Prelude.{ℕ, ◌-◌, ◌≡◌, List, [], ◌∷◌, ◌++◌, map, ltb, eqb, get_or}
 use Rattle.paper.specs.Choice.{◌gives◌or◌}
 use Rattle.paper.specs.CodeTable.{bit8, so, si, esc}
 use Rattle.paper.specs.Results.{element_number, char_word, space_word, delete_word, control_word}
@@ -13,6 +13,7 @@ use Rattle.paper.specs.declared.Element.{Element}
 use Rattle.paper.specs.declared.GraphicArea.{GraphicArea}
 use Rattle.charsets.specs.Sizes.{kind_of}
 use Rattle.escapes.specs.declared.effect.Effect.{Effect}
+use Rattle.escapes.specs.Effects.{word_number}
 use Rattle.items.specs.Pieces.{bytes_in, Small}
 use Rattle.items.specs.States.{size_in}
 use Rattle.items.specs.declared.piece.Piece.{Piece}
@@ -69,14 +70,13 @@ control_in Form.Eight shown bytes = alone bytes shown
 
 unfoldable pub writes : Form → ℕ → List ℕ → Effect → List ℕ → Wrote
 writes to shown cells x bytes =
-    eqb x.word.0 char_word gives character_in to shown x.value bytes or
-    eqb x.word.0 space_word gives space_in to shown cells bytes or
-    eqb x.word.0 delete_word gives space_in to shown cells bytes or
-    eqb x.word.0 control_word gives control_in to shown bytes or
+    eqb (word_number x.word) char_word gives character_in to shown x.value bytes or
+    eqb (word_number x.word) space_word gives space_in to shown cells bytes or
+    eqb (word_number x.word) delete_word gives space_in to shown cells bytes or
+    eqb (word_number x.word) control_word gives control_in to shown bytes or
     alone bytes shown
 
 -- what an item's piece has, by its word
 pub record Writable (x : Effect) (p : Piece) : Type 0 where
   pub small : Small p
-  pub of_character : x.word.0 ≡ char_word → (1 ≤ p.count) × (p.count ≤ 3)
-  pub of_control : x.word.0 ≡ control_word → p.count ≡ 1
+  pub of_control : word_number x.word ≡ control_word → p.count ≡ 1

@@ -9,25 +9,21 @@ ghost use Rattle.converter.specs.Writing.{Writable};
 
 use charsets::kind_of;
 use codetable::{BIT_8, ESC, SI, SO};
-use escapes::effect::{
-    CHAR_WORD, CONTROL_WORD, DELETE_WORD, Effect, ElementNumber, G0, G1, G2, SPACE_WORD,
+use escapes::effect::{Effect, ElementNumber, G0, G1, G2, Word};
+use escapes::{
+    FINAL_OF_FUNCTION, FINAL_OF_SS2, FINAL_OF_SS3, SINGLE_SHIFT_THREE, SINGLE_SHIFT_TWO,
 };
-use escapes::{FINAL_OF_FUNCTION, SINGLE_SHIFT_THREE, SINGLE_SHIFT_TWO};
-use items::piece::{Piece, SECOND, THIRD, in_front, one};
+use items::piece::{Piece, SECOND, in_front, one};
 use items::state::{CELLS, size_in};
 use paper::{Form, Kind};
 
-// The finals and the bytes of the single shifts.
-const FINAL_OF_SS2: u8 = FINAL_OF_FUNCTION + SINGLE_SHIFT_TWO;
-
-const FINAL_OF_SS3: u8 = FINAL_OF_FUNCTION + SINGLE_SHIFT_THREE;
-
+// The bytes of the single shifts.
 const SS2: u8 = BIT_8 + SINGLE_SHIFT_TWO;
 
 const SS3: u8 = BIT_8 + SINGLE_SHIFT_THREE;
 
-// Bit 8 of the lowest byte of a number.
-const BIT_8_IN_A_NUMBER: u64 = BIT_8 as u64;
+// Bit 8 of each byte of a number.
+const BIT_8_OF_EACH: u64 = 0x8080_8080_8080_8080;
 
 // A piece, and what GL shows in the output after it.
 #[derive(Clone, Copy)]
@@ -36,56 +32,33 @@ pub(crate) struct Written {
     pub(crate) shown: ElementNumber,
 }
 
-fn as_written(piece: Piece, shown: ElementNumber) -> Written
-    ensures { wrote_of result ≡ alone (bytes_in piece) shown.0 }
-{
-    Written {
-        piece: piece,
-        shown: shown,
-    }
-}
-
-// The lowest byte of a number with bit 8.
-fn raised(bytes: u64) -> u64
-    ensures { result ≡ bit8 + bytes % bit8 }
-{
-    BIT_8_IN_A_NUMBER + bytes % BIT_8_IN_A_NUMBER
-}
-
-// One, two or three position bytes as bytes of GR.
+// Position bytes as bytes of GR. What a number has above its piece is not read.
 #[tactic(auto, unfolding(items::specs::Pieces::bytes_in))]
 fn of_gr(piece: Piece) -> Piece
-    requires { (1 ≤ piece.count) × (piece.count ≤ 3) }
+    requires { Small piece }
     ensures { bytes_in result ≡ map (byte_from GraphicArea.GR) (bytes_in piece) }
 {
-    let count = piece.count;
-    let bytes = piece.bytes;
-    match count {
-        1 => Piece {
-            count: 1,
-            bytes: raised(bytes),
-        },
-        2 => Piece {
-            count: 2,
-            bytes: raised(bytes / SECOND) * SECOND + raised(bytes),
-        },
-        _ => Piece {
-            count: 3,
-            bytes: raised(bytes / THIRD) * THIRD + raised(bytes / SECOND) * SECOND + raised(bytes),
-        },
+    Piece {
+        bytes: piece.bytes | BIT_8_OF_EACH,
+        ..piece
     }
 }
 
-// 7-bit: SI or SO first where GL shows another element.
+// 7-bit: SI or SO first where GL shows another element. `Small piece`, here and below, is a clause and no field: `in_front` answers
+// for any piece (docs/PROMISES.md), and a type around a piece would only bring a `.piece` to each line.
 #[tactic(auto, using(paper::proofs::Tests::tests), unfolding(crate::specs::Writing::shifted_to))]
 fn shifted(shown: ElementNumber, element: u8, shift: u8, piece: Piece) -> Written
     requires { Small piece }
     ensures { wrote_of result ≡ shifted_to element shift shown.0 (bytes_in piece) }
 {
-    if shown.0 == element {
-        as_written(piece, ElementNumber(element))
+    let piece = if shown.0 == element {
+        piece
     } else {
-        as_written(in_front(shift, piece), ElementNumber(element))
+        in_front(shift, piece)
+    };
+    Written {
+        piece,
+        shown: ElementNumber(element),
     }
 }
 
@@ -95,27 +68,40 @@ fn in_seven(shown: ElementNumber, element: ElementNumber, piece: Piece) -> Writt
     requires { Small piece }
     ensures { wrote_of result ≡ in_seven shown.0 element.0 (bytes_in piece) }
 {
-    let number = element.0;
-    match number {
+    match element.0 {
         G0 => shifted(shown, G0, SI, piece),
         G1 => shifted(shown, G1, SO, piece),
-        G2 => as_written(in_front(ESC, in_front(FINAL_OF_SS2, piece)), shown),
-        _ => as_written(in_front(ESC, in_front(FINAL_OF_SS3, piece)), shown),
+        G2 => Written {
+            piece: in_front(ESC, in_front(FINAL_OF_SS2, piece)),
+            shown,
+        },
+        _ => Written {
+            piece: in_front(ESC, in_front(FINAL_OF_SS3, piece)),
+            shown,
+        },
     }
 }
 
-// 8-bit: no locking shift.
+// 8-bit: no locking shift. Beside `in_seven`: G0 and G1 share nothing, and by one function G2 and G3 would ask for the form once more.
 #[tactic(auto, using(paper::proofs::Tests::tests), unfolding(crate::specs::Writing::in_eight))]
 fn in_eight(shown: ElementNumber, element: ElementNumber, piece: Piece) -> Written
-    requires { Small piece × (1 ≤ piece.count) × (piece.count ≤ 3) }
+    requires { Small piece }
     ensures { wrote_of result ≡ in_eight shown.0 element.0 (bytes_in piece) }
 {
-    let number = element.0;
-    match number {
-        G0 => as_written(piece, shown),
-        G1 => as_written(of_gr(piece), shown),
-        G2 => as_written(in_front(SS2, piece), shown),
-        _ => as_written(in_front(SS3, piece), shown),
+    match element.0 {
+        G0 => Written { piece, shown },
+        G1 => Written {
+            piece: of_gr(piece),
+            shown,
+        },
+        G2 => Written {
+            piece: in_front(SS2, piece),
+            shown,
+        },
+        _ => Written {
+            piece: in_front(SS3, piece),
+            shown,
+        },
     }
 }
 
@@ -126,7 +112,7 @@ pub(crate) fn write_character(
     element: ElementNumber,
     piece: Piece,
 ) -> Written
-    requires { Small piece × (1 ≤ piece.count) × (piece.count ≤ 3) }
+    requires { Small piece }
     ensures { wrote_of result ≡ character_in to shown.0 element.0 (bytes_in piece) }
 {
     match to {
@@ -140,31 +126,30 @@ fn write_space(to: Form, shown: ElementNumber, state: &[u8; CELLS], piece: Piece
     requires { Small piece }
     ensures { wrote_of result ≡ space_in to shown.0 state.now (bytes_in piece) }
 {
-    match to {
-        Form::Seven => match kind_of(size_in(state, shown)) {
-            Kind::Of94 => as_written(piece, shown),
-            Kind::Of96 => as_written(in_front(SI, piece), ElementNumber(G0)),
+    match (to, kind_of(size_in(state, shown))) {
+        (Form::Seven, Kind::Of96) => Written {
+            piece: in_front(SI, piece),
+            shown: ElementNumber(G0),
         },
-        Form::Eight => as_written(piece, shown),
+        _ => Written { piece, shown },
     }
 }
 
 // A control: a C1 function is ESC Fe in 7-bit form, its byte in 8-bit form.
-#[tactic(auto, using(paper::proofs::Tests::tests), unfolding(crate::specs::Writing::control_in))]
+#[tactic(auto, using(crate::proofs::PieceBytes::tests_and_byte), unfolding(crate::specs::Writing::control_in))]
 fn write_control(to: Form, shown: ElementNumber, piece: Piece) -> Written
     requires { piece.count ≡ 1 }
     ensures { wrote_of result ≡ control_in to shown.0 (bytes_in piece) }
 {
     let byte = (piece.bytes % SECOND) as u8;
     match to {
-        Form::Seven => {
-            if byte < BIT_8 {
-                as_written(piece, shown)
-            } else {
-                as_written(in_front(ESC, one(byte - FINAL_OF_FUNCTION)), shown)
+        Form::Seven if byte >= BIT_8 => {
+            Written {
+                piece: in_front(ESC, one(byte - FINAL_OF_FUNCTION)),
+                shown,
             }
         }
-        Form::Eight => as_written(piece, shown),
+        _ => Written { piece, shown },
     }
 }
 
@@ -180,14 +165,10 @@ pub(crate) fn write(
     requires { Writable effect piece }
     ensures { wrote_of result ≡ writes to shown.0 state.now effect (bytes_in piece) }
 {
-    let word = effect.word;
-    let number = word.0;
-    let element = ElementNumber(effect.value);
-    match number {
-        CHAR_WORD => write_character(to, shown, element, piece),
-        SPACE_WORD => write_space(to, shown, state, piece),
-        DELETE_WORD => write_space(to, shown, state, piece),
-        CONTROL_WORD => write_control(to, shown, piece),
-        _ => as_written(piece, shown),
+    match effect.word {
+        Word::CHAR => write_character(to, shown, ElementNumber(effect.value), piece),
+        Word::SPACE | Word::DELETE => write_space(to, shown, state, piece),
+        Word::CONTROL => write_control(to, shown, piece),
+        _ => Written { piece, shown },
     }
 }

@@ -1,1 +1,2 @@
 pub mod MeaningsKept
+pub mod WordNumbers

@@ -1,43 +1,59 @@
-// What a meaning does, in small numbers: the word of its answer, the cell of the state that it changes, and what the cell has then. Each
-// number is of a type of its own, so that one is not given where another is due.
+// What a meaning does, in three bytes: the word of its answer, the cell of the state that it changes, and what the cell has then. So it is
+// handed over in one register.
 ghost use Rattle.std.specs.Prelude.{◌≡◌};
-ghost use Rattle.paper.specs.Results.{designate_word};
-ghost use Rattle.escapes.specs.Effects.{effect, plain, shows_in_gl, shows_in_gr, takes_one};
+ghost use Rattle.escapes.specs.declared.effect.Word.{Word};
+ghost use Rattle.escapes.specs.Effects.{ends_stretch, effect, plain, shows_in_gl, shows_in_gr, takes_one};
 
 use charsets::Size;
 
-// A place in the paper's list of the answer words.
-#[derive(Clone, Copy)]
+// The answer words by their places in the paper's list. An opening that is taken whole, and that there is nothing past the end of a
+// text, are words after the paper's. A byte and no enum: `plain` (docs/PROMISES.md) answers for any.
+#[derive(Clone, Copy, PartialEq, Eq)]
 pub struct Word(pub u8);
 
-pub const CHAR_WORD: u8 = 1;
+impl Word {
+    pub const NOTHING_YET: Word = Word(0);
 
-pub const SPACE_WORD: u8 = 2;
+    pub const CHAR: Word = Word(1);
 
-pub const DELETE_WORD: u8 = 3;
+    pub const SPACE: Word = Word(2);
 
-pub const CONTROL_WORD: u8 = 4;
+    pub const DELETE: Word = Word(3);
 
-pub const DESIGNATE_WORD: u8 = 5;
+    pub const CONTROL: Word = Word(4);
 
-pub const SHIFT_WORD: u8 = 6;
+    pub const DESIGNATE: Word = Word(5);
 
-pub const OTHER_WORD: u8 = 7;
+    pub const SHIFT: Word = Word(6);
 
-pub const REFUSED_WORD: u8 = 8;
+    pub const OTHER: Word = Word(7);
 
-pub const INSTEP_WORD: u8 = 10;
+    pub const REFUSED: Word = Word(8);
 
-// How many words there are.
+    pub const SKIPPED: Word = Word(9);
+
+    pub const INSTEP: Word = Word(10);
+
+    pub const OPENING: Word = Word(11);
+
+    pub const PAST: Word = Word(12);
+
+    // Whether a stretch of a text ends at an item that has this word: a refusal, or one whose place is after a refusal's.
+    #[tactic(auto, using(paper::proofs::Tests::tests))]
+    pub fn ends_stretch(self) -> bool
+        ensures { result ≡ ends_stretch self }
+    {
+        self.0 >= Word::REFUSED.0
+    }
+}
+
+// How many words the paper has.
 pub const WORDS: usize = 11;
 
-// The paper's number of an element.
+// The paper's number of an element. A byte and no enum: the value of a cell in a row of bytes, which an item changes by one store;
+// `shows_in_gl` and `items::state::size_in` (docs/PROMISES.md) answer for any.
 #[derive(Clone, Copy)]
 pub struct ElementNumber(pub u8);
-
-pub(crate) const C0: u8 = 0;
-
-pub(crate) const C1: u8 = 1;
 
 pub const G0: u8 = 2;
 
@@ -48,17 +64,31 @@ pub const G2: u8 = 4;
 pub const G3: u8 = 5;
 
 // A cell of the state: those of the elements by their numbers, then what GL and GR show, the element that a single shift takes, and one
-// that nothing reads.
-#[derive(Clone, Copy)]
+// that nothing reads. A byte and no enum: `items::state::change` (docs/PROMISES.md) answers for any.
+#[derive(Clone, Copy, PartialEq, Eq)]
 pub struct Cell(pub u8);
 
-pub const GL: u8 = 6;
+impl Cell {
+    pub const C0: Cell = Cell(0);
 
-pub const GR: u8 = 7;
+    pub const C1: Cell = Cell(1);
 
-pub const SINGLE: u8 = 8;
+    pub const G0: Cell = Cell(G0);
 
-const NOWHERE: u8 = 9;
+    pub const G1: Cell = Cell(G1);
+
+    pub const G2: Cell = Cell(G2);
+
+    pub const G3: Cell = Cell(G3);
+
+    pub const GL: Cell = Cell(6);
+
+    pub const GR: Cell = Cell(7);
+
+    pub const SINGLE: Cell = Cell(8);
+
+    pub const NOWHERE: Cell = Cell(9);
+}
 
 #[derive(Clone, Copy)]
 pub struct Effect {
@@ -67,45 +97,51 @@ pub struct Effect {
     pub value: u8,
 }
 
-pub(crate) fn effect_by(word: u8, cell: u8, value: u8) -> Effect
-    ensures { result ≡ effect word cell value }
+// What changes nothing.
+pub fn plain(word: Word, value: u8) -> Effect
+    ensures { result ≡ plain word value }
 {
-    let of_word = Word(word);
-    let in_cell = Cell(cell);
     Effect {
-        word: of_word,
-        cell: in_cell,
-        value: value,
+        word,
+        cell: Cell::NOWHERE,
+        value,
     }
 }
 
-// What changes nothing.
-pub fn plain(word: u8, value: u8) -> Effect
-    ensures { result ≡ plain word value }
+fn shows(cell: Cell, element: ElementNumber) -> Effect
+    ensures { result ≡ effect Word.SHIFT cell element.0 }
 {
-    effect_by(word, NOWHERE, value)
+    Effect {
+        word: Word::SHIFT,
+        cell,
+        value: element.0,
+    }
 }
 
 pub fn shows_in_gl(element: ElementNumber) -> Effect
     ensures { result ≡ shows_in_gl element.0 }
 {
-    effect_by(SHIFT_WORD, GL, element.0)
+    shows(Cell::GL, element)
 }
 
 pub(crate) fn shows_in_gr(element: ElementNumber) -> Effect
     ensures { result ≡ shows_in_gr element.0 }
 {
-    effect_by(SHIFT_WORD, GR, element.0)
+    shows(Cell::GR, element)
 }
 
 pub(crate) fn takes_one(element: ElementNumber) -> Effect
     ensures { result ≡ takes_one element.0 }
 {
-    effect_by(SHIFT_WORD, SINGLE, element.0)
+    shows(Cell::SINGLE, element)
 }
 
-pub(crate) fn designates(element: ElementNumber, size: Size) -> Effect
-    ensures { result ≡ effect designate_word element.0 size.0 }
+pub(crate) fn designates(cell: Cell, size: Size) -> Effect
+    ensures { result ≡ effect Word.DESIGNATE cell size.0 }
 {
-    effect_by(DESIGNATE_WORD, element.0, size.0)
+    Effect {
+        word: Word::DESIGNATE,
+        cell,
+        value: size.0,
+    }
 }

@@ -11,13 +11,12 @@ ghost use Rattle.paper.specs.declared.Count.{Count};
 ghost use Rattle.paper.specs.declared.Meaning.{Meaning};
 ghost use Rattle.paper.specs.declared.Shift.{Shift};
 ghost use Rattle.charsets.specs.Sizes.{count_number};
-ghost use Rattle.escapes.specs.Effects.{shows_in_gr, shift_effect, effect_of, shift_by, designation_by, meaning_by};
+ghost use Rattle.escapes.specs.Effects.{cell_number, shows_in_gr, shift_effect, effect_of, shift_by, designation_by, meaning_by};
 
 use charsets::{OF_94, OF_96, Size, THREE_BYTES, TWO_BYTES, count_of, kind_of};
 use codetable::between;
 use effect::{
-    C0, C1, CONTROL_WORD, DESIGNATE_WORD, Effect, ElementNumber, G0, G1, G2, G3, GL, GR,
-    OTHER_WORD, REFUSED_WORD, SHIFT_WORD, designates, effect_by, plain, shows_in_gl, shows_in_gr,
+    Cell, Effect, ElementNumber, G0, G1, G2, G3, Word, designates, plain, shows_in_gl, shows_in_gr,
     takes_one,
 };
 use paper::{ControlElement, Element, Form, Intermediates, Meaning, SequenceByte, Shift};
@@ -38,8 +37,12 @@ pub const SINGLE_SHIFT_TWO: u8 = 14;
 
 pub const SINGLE_SHIFT_THREE: u8 = 15;
 
-// The final of the C1 function 0.
+// The final of the C1 function 0, and those of the single shifts.
 pub const FINAL_OF_FUNCTION: u8 = 0x40;
+
+pub const FINAL_OF_SS2: u8 = FINAL_OF_FUNCTION + SINGLE_SHIFT_TWO;
+
+pub const FINAL_OF_SS3: u8 = FINAL_OF_FUNCTION + SINGLE_SHIFT_THREE;
 
 // The intermediates of control sets, and the one that leads to sets of several bytes.
 pub const OF_C0: u8 = 0x21;
@@ -115,13 +118,13 @@ pub fn sequence_byte(byte: u8) -> SequenceByte
 fn without_meaning() -> Effect
     ensures { result ≡ effect_of Meaning.NoMeaning }
 {
-    plain(REFUSED_WORD, 0)
+    plain(Word::REFUSED, 0)
 }
 
 fn other() -> Effect
     ensures { result ≡ effect_of Meaning.Other }
 {
-    plain(OTHER_WORD, 0)
+    plain(Word::OTHER, 0)
 }
 
 // What a C1 function does, by its number.
@@ -132,13 +135,8 @@ pub fn effect_of_function(number: u8) -> Effect
     match number {
         SINGLE_SHIFT_TWO => takes_one(ElementNumber(G2)),
         SINGLE_SHIFT_THREE => takes_one(ElementNumber(G3)),
-        _ => {
-            if number <= LAST_FUNCTION {
-                plain(CONTROL_WORD, number)
-            } else {
-                without_meaning()
-            }
-        }
+        ..=LAST_FUNCTION => plain(Word::CONTROL, number),
+        _ => without_meaning(),
     }
 }
 
@@ -168,7 +166,7 @@ fn shift_or_other(form: Form, last: u8) -> Effect
 }
 
 // ESC F
-#[tactic(auto, unfolding(paper::specs::Sequences::meaning_of_none))]
+#[tactic(auto, using(paper::proofs::Choices::between_bounds), unfolding(paper::specs::Sequences::meaning_of_none))]
 pub fn effect_of_none(form: Form, last: u8) -> Effect
     ensures { result ≡ effect_of (meaning_of_none form last) }
 {
@@ -191,13 +189,13 @@ fn designate_by(intermediate: u8, bytes: u8) -> Effect
     ensures { (n : Count) → bytes ≡ count_number n → result ≡ effect_of (designation intermediate n) }
 {
     match intermediate {
-        OF_94_INTO_G0 => designates(ElementNumber(G0), Size(bytes + OF_94)),
-        OF_94_INTO_G1 => designates(ElementNumber(G1), Size(bytes + OF_94)),
-        OF_94_INTO_G2 => designates(ElementNumber(G2), Size(bytes + OF_94)),
-        OF_94_INTO_G3 => designates(ElementNumber(G3), Size(bytes + OF_94)),
-        OF_96_INTO_G1 => designates(ElementNumber(G1), Size(bytes + OF_96)),
-        OF_96_INTO_G2 => designates(ElementNumber(G2), Size(bytes + OF_96)),
-        OF_96_INTO_G3 => designates(ElementNumber(G3), Size(bytes + OF_96)),
+        OF_94_INTO_G0 => designates(Cell::G0, Size(bytes + OF_94)),
+        OF_94_INTO_G1 => designates(Cell::G1, Size(bytes + OF_94)),
+        OF_94_INTO_G2 => designates(Cell::G2, Size(bytes + OF_94)),
+        OF_94_INTO_G3 => designates(Cell::G3, Size(bytes + OF_94)),
+        OF_96_INTO_G1 => designates(Cell::G1, Size(bytes + OF_96)),
+        OF_96_INTO_G2 => designates(Cell::G2, Size(bytes + OF_96)),
+        OF_96_INTO_G3 => designates(Cell::G3, Size(bytes + OF_96)),
         _ => without_meaning(),
     }
 }
@@ -208,7 +206,7 @@ fn short_designation(last: u8) -> Effect
     ensures { result ≡ effect_of (short_designation last) }
 {
     if between(FIRST_SHORT, LAST_SHORT, last) {
-        designates(ElementNumber(G0), Size(TWO_BYTES + OF_94))
+        designates(Cell::G0, Size(TWO_BYTES + OF_94))
     } else {
         without_meaning()
     }
@@ -220,11 +218,9 @@ fn by_intermediate(first: u8, last: u8) -> Effect
     ensures { result ≡ effect_of (by_intermediate first last) }
 {
     match first {
-        OTHER_BY_SPACE => other(),
-        OTHER_BY_NUMBER_SIGN => other(),
-        OTHER_BY_AMPERSAND => other(),
-        OF_C0 => effect_by(DESIGNATE_WORD, C0, 0),
-        OF_C1 => effect_by(DESIGNATE_WORD, C1, 0),
+        OTHER_BY_SPACE | OTHER_BY_NUMBER_SIGN | OTHER_BY_AMPERSAND => other(),
+        OF_C0 => designates(Cell::C0, Size(0)),
+        OF_C1 => designates(Cell::C1, Size(0)),
         SEVERAL => short_designation(last),
         _ => designate_by(first, 0),
     }
@@ -269,17 +265,17 @@ pub fn effect_of_two(first: u8, second: u8, last: u8) -> Effect
 
 // A shift from the cell and the element.
 #[tactic(auto, using(paper::proofs::Tests::tests), unfolding(crate::specs::Effects::shift_by))]
-fn shift_by(cell: u8, element: u8) -> Shift
-    ensures { result ≡ shift_by cell element }
+fn shift_by(cell: Cell, element: u8) -> Shift
+    ensures { result ≡ shift_by (cell_number cell) element }
 {
     match cell {
-        GL => match element {
+        Cell::GL => match element {
             G0 => Shift::LS0,
             G1 => Shift::LS1,
             G2 => Shift::LS2,
             _ => Shift::LS3,
         },
-        GR => match element {
+        Cell::GR => match element {
             G1 => Shift::LS1R,
             G2 => Shift::LS2R,
             _ => Shift::LS3R,
@@ -293,17 +289,17 @@ fn shift_by(cell: u8, element: u8) -> Shift
 
 // A designation from the cell and the size.
 #[tactic(auto, using(paper::proofs::Tests::tests), unfolding(crate::specs::Effects::designation_by))]
-fn designation_by(cell: u8, value: u8) -> Meaning
-    ensures { result ≡ designation_by cell value }
+fn designation_by(cell: Cell, value: u8) -> Meaning
+    ensures { result ≡ designation_by (cell_number cell) value }
 {
     let kind = kind_of(Size(value));
     let count = count_of(Size(value));
     match cell {
-        C0 => Meaning::DesignateControls(ControlElement::C0),
-        C1 => Meaning::DesignateControls(ControlElement::C1),
-        G0 => Meaning::Designate(Element::G0, kind, count),
-        G1 => Meaning::Designate(Element::G1, kind, count),
-        G2 => Meaning::Designate(Element::G2, kind, count),
+        Cell::C0 => Meaning::DesignateControls(ControlElement::C0),
+        Cell::C1 => Meaning::DesignateControls(ControlElement::C1),
+        Cell::G0 => Meaning::Designate(Element::G0, kind, count),
+        Cell::G1 => Meaning::Designate(Element::G1, kind, count),
+        Cell::G2 => Meaning::Designate(Element::G2, kind, count),
         _ => Meaning::Designate(Element::G3, kind, count),
     }
 }
@@ -313,19 +309,17 @@ fn designation_by(cell: u8, value: u8) -> Meaning
 fn meaning_by(effect: Effect) -> Meaning
     ensures { result ≡ meaning_by effect }
 {
-    let word = effect.word.0;
-    let cell = effect.cell.0;
-    let value = effect.value;
-    match word {
-        CONTROL_WORD => Meaning::Function(value),
-        DESIGNATE_WORD => designation_by(cell, value),
-        SHIFT_WORD => Meaning::Shifts(shift_by(cell, value)),
-        OTHER_WORD => Meaning::Other,
+    match effect.word {
+        Word::CONTROL => Meaning::Function(effect.value),
+        Word::DESIGNATE => designation_by(effect.cell, effect.value),
+        Word::SHIFT => Meaning::Shifts(shift_by(effect.cell, effect.value)),
+        Word::OTHER => Meaning::Other,
         _ => Meaning::NoMeaning,
     }
 }
 
 // What a C1 function means, by its number.
+#[tactic(auto, using(crate::proofs::MeaningsKept::meaning_kept))]
 pub fn c1_function(number: u8) -> Meaning
     ensures { result ≡ c1_function number }
 {
@@ -344,6 +338,7 @@ fn effect_of(form: Form, intermediates: Intermediates, last: u8) -> Effect
 }
 
 // What the sequence with these intermediates and this last byte means.
+#[tactic(auto, using(crate::proofs::MeaningsKept::meaning_kept))]
 pub fn meaning_of(form: Form, intermediates: Intermediates, last: u8) -> Meaning
     ensures { result ≡ meaning_of form intermediates last }
 {

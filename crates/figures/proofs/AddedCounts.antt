@@ -3,15 +3,17 @@ use Prim.Native.Nat.{ℕ, ◌+◌, ◌-◌, ◌*◌, ◌≤◌, ◌<◌}
 use mathlib.Core.Path.{◌≡◌, refl, sym, ◌∙◌, subst}
 use mathlib.Core.Bool.{Bool, true, false}
 use mathlib.Core.List.{List}
+use mathlib.Core.Logic.{⊎_elim}
 use native.Mathlib.Omega.{arith}
 use borrow.Author.Tests.{eqb-true, eqb-false}
 use lib.Dec.{eqb}
 use lib.ListN.{length, get_or, length-set}
-use lib.Seq.{get_or-set_same, get_or-set_other, ext_get_or}
+use lib.Seq.{get_or-set_same, get_or-set_other, set_out, ext_get_or}
 use Rattle.paper.specs.Choice.{◌gives◌or◌}
 use Rattle.paper.specs.Refusals.{longest_text}
 use Rattle.paper.specs.Results.{char_word, control_word}
 use Rattle.paper.proofs.Choices.{gives_has}
+use Rattle.lane.proofs.LaneItems.{less_or_not}
 use Rattle.figures.specs.Counting.{added, tally, Takes, Fits}
 
 -- what one entry has of so many more of a word
@@ -46,9 +48,17 @@ entry counts i n w h = by (eqb i w) refl
         let other = get_or-set_other counts i w (get_or counts i 0 + n) 0 (λ q. eqb-false i w e (sym q)) in
         omega arith
 
-module _ {text counts : List ℕ} {place : ℕ} (f : Fits text counts place) (i n : ℕ) (below : i < 11) where
-  pub room : n ≤ longest_text → (i < length counts) × (get_or counts i 0 + n ≤ 2 * longest_text)
-  room h = (omega (arith, f.words), omega (arith, f.bounded i, f.within, f.short))
+-- a word that has no count changes none
+entry_most : (counts : List ℕ) (i n w : ℕ) → get_or (added counts i n) w 0 ≤ get_or counts w 0 + n
+entry_most counts i n w =
+    ⊎_elim
+    (λ (below : i < length counts). omega (arith, entry counts i n w below, part_most i n w))
+    (λ past. rw (set_out counts i (get_or counts i 0 + n) past) (omega arith))
+    (less_or_not i (length counts))
+
+module _ {text counts : List ℕ} {place : ℕ} (f : Fits text counts place) (i n : ℕ) where
+  pub room : i < 11 → n ≤ longest_text → (i < 11) × (get_or counts i 0 + n ≤ 2 * longest_text)
+  room below h = (below, omega (arith, f.bounded i, f.within, f.short))
 
   pub fits_more : {after : List ℕ} → after ≡ added counts i n → place + n ≤ length text → Fits text after (place + n)
   fits_more e h =
@@ -56,26 +66,24 @@ module _ {text counts : List ℕ} {place : ℕ} (f : Fits text counts place) (i 
       (record {
         short = f.short;
         within = h;
-        words = length-set counts i (get_or counts i 0 + n) ∙ f.words;
-        bounded = λ w. omega (arith, entry counts i n w (omega (arith, f.words)), part_most i n w, f.bounded w);
+        bounded = λ w. omega (arith, entry_most counts i n w, f.bounded w);
       })
 
 -- so many more of all words together
 pub takes : {text counts : List ℕ} {place all : ℕ} → Fits text counts place → place + all ≤ length text → Takes counts all
-takes f within = record { words = f.words; bounded = λ w. omega (arith, f.bounded w, f.short) }
+takes f within = record { bounded = λ w. omega (arith, f.bounded w, f.short) }
 
-pub takes_more : {counts after : List ℕ} {some all : ℕ} → Takes counts all → some ≤ all → (i : ℕ) → i < 11 → after ≡ added counts i some →
+pub takes_more : {counts after : List ℕ} {some all : ℕ} → Takes counts all → some ≤ all → (i : ℕ) → after ≡ added counts i some →
     {left : ℕ} → left ≡ all - some → Takes after left
-takes_more {counts} {after} {some} t few i below is left_is =
+takes_more {counts} {after} {some} t few i is left_is =
     rw (is, left_is)
     (record {
-      words = length-set counts i (get_or counts i 0 + some) ∙ t.words;
-      bounded = λ w. omega (arith, entry counts i some w (omega (arith, t.words)), part_most i some w, t.bounded w);
+      bounded = λ w. omega (arith, entry_most counts i some w, t.bounded w);
     })
 
 pub takes_room : {counts : List ℕ} {all : ℕ} → Takes counts all → (i n : ℕ) → i < 11 → n ≤ all →
-    (i < length counts) × (get_or counts i 0 + n ≤ 2 * longest_text)
-takes_room t i n below few = (omega (arith, t.words), omega (arith, t.bounded i))
+    (i < 11) × (get_or counts i 0 + n ≤ 2 * longest_text)
+takes_room t i n below few = (below, omega (arith, t.bounded i))
 
 pub tallied : (counts : List ℕ) (spaces c s o : ℕ) {one two three : List ℕ} {word : ℕ} → one ≡ added counts control_word c →
     word ≡ spaces → two ≡ added one word s → three ≡ added two char_word o → three ≡ tally counts spaces c s o

@@ -7,7 +7,7 @@ use mathlib.Core.List.{List, [], ◌∷◌, ◌++◌}
 use native.Mathlib.Omega.{arith}
 use borrow.Author.Tests.{eqb-true, ne_eqb}
 use lib.Dec.{eqb}
-use lib.ListN.{length, drop, length-append, length-drop}
+use lib.ListN.{length, drop, get_or, length-append, length-drop, length-set}
 use lib.Seq.{drop-drop}
 use Rattle.paper.specs.Choice.{◌gives◌or◌, between}
 use Rattle.paper.specs.CodeTable.{column_area, form_has_column, position_of}
@@ -25,7 +25,6 @@ use Rattle.paper.specs.declared.Element.{Element}
 use Rattle.paper.specs.declared.Sets.{Sets}
 use Rattle.paper.specs.declared.Within.{Within}
 use Rattle.paper.specs.declared.Reader.{Reader}
-use Rattle.paper.specs.declared.FirstRefusal.{FirstRefusal}
 use Rattle.paper.proofs.Choices.{impossible, gives_by}
 use Rattle.paper.proofs.ListsThatEnd.{begins_rest}
 use Rattle.paper.proofs.TextsThatGoOn.{reader_on, answers_on}
@@ -40,6 +39,8 @@ use Rattle.figures.specs.Stretches.{opening_counted}
 use Rattle.figures.proofs.AddedCounts.{part, part_more, part_of_none, entry, fits_more}
 use Rattle.figures.proofs.RestToCount.{one_and}
 use Rattle.figures.proofs.CountingOverRefusals.{in_step_again}
+use Rattle.std.specs.Prelude.{Option}
+use Rattle.paper.specs.declared.Refused.{Refused}
 
 -- ---- answers that are nothing yet, designations and shifts
 
@@ -124,7 +125,7 @@ at_least_eight Form.Eight = omega arith
 
 -- ---- what is counted goes on over it
 
-module _ {form : Form} {text counts : List ℕ} {first : FirstRefusal} {place : ℕ} (t : Sets) (left right : Element)
+module _ {form : Form} {text counts : List ℕ} {first : Option Refused} {place : ℕ} (t : Sets) (left right : Element)
     (c : Counting form text counts first (on_ground form t left right) place)
     (begins : begins_with (drop place text) (opening form) ≡ true) where
   abbrev reader : Reader
@@ -186,32 +187,36 @@ module _ {form : Form} {text counts : List ℕ} {first : FirstRefusal} {place : 
       )
 
   fits_designations : Fits text (added counts designate_word 6) (place + 6)
-  fits_designations = fits_more c.fits designate_word 6 (omega arith) refl (omega (arith, inside, at_least_eight form))
+  fits_designations = fits_more c.fits designate_word 6 refl (omega (arith, inside, at_least_eight form))
 
   fits_opening : Fits text (opening_counted counts) there
   fits_opening =
       let long = at_least_eight form in
       let within = inside in
-      let f = fits_more fits_designations shift_word 2 (omega arith) refl (omega arith) in
-      record { short = f.short; within = within; words = f.words; bounded = λ w. omega (arith, f.bounded w) }
+      let f = fits_more fits_designations shift_word 2 refl (omega arith) in
+      record { short = f.short; within = within; bounded = λ w. omega (arith, f.bounded w) }
+
+  words_designations : length (added counts designate_word 6) ≡ 11
+  words_designations = length-set counts designate_word (get_or counts designate_word 0 + 6) ∙ c.words
 
   counts_opening : Counting form text (opening_counted counts) first (started form) there
   counts_opening = record {
     fits = fits_opening;
+    words = length-set (added counts designate_word 6) shift_word (get_or (added counts designate_word 6) shift_word 0 + 2) ∙ words_designations;
     in_form = refl;
     gr_shows_g1 = λ seven. refl;
     counted = λ w figure. omega (
       arith,
       c.counted w figure,
       many_are w figure,
-      entry counts designate_word 6 w (omega (arith, c.fits.words)),
-      entry (added counts designate_word 6) shift_word 2 w (omega (arith, fits_designations.words)),
+      entry counts designate_word 6 w (omega (arith, c.words)),
+      entry (added counts designate_word 6) shift_word 2 w (omega (arith, words_designations)),
     );
     refused = ap (first_of first) (sym (computed.refuses rest) ∙ ap first_refusal (sym answers_are)) ∙ c.refused;
     ends = sym end_is ∙ c.ends;
   }
 
-module _ {form : Form} {text cells counts : List ℕ} {first : FirstRefusal} {place : ℕ} (c : Counts form text cells counts first place)
+module _ {form : Form} {text cells counts : List ℕ} {first : Option Refused} {place : ℕ} (c : Counts form text cells counts first place)
     {i : Item} (o : Opens form text c.reader place i) where
   pub opening_onward : place + 8 ≤ i.place
   opening_onward = omega (arith, ap (λ (x : Item). x.place) o.is, at_least_eight form)

@@ -8,7 +8,7 @@ use native.Mathlib.Omega.{arith}
 use native.Mathlib.Numerals.{add-one}
 use borrow.Author.Tests.{ne_eqb}
 use lib.Dec.{eqb}
-use lib.ListN.{length, drop, get_or, replicate, drop_of_length-le}
+use lib.ListN.{length, drop, get_or, replicate, drop_of_length-le, length-set}
 use lib.Seq.{drop-cons}
 use Rattle.paper.specs.Choice.{◌gives◌or◌}
 use Rattle.paper.specs.Refusals.{longest_text}
@@ -25,20 +25,20 @@ use Rattle.paper.specs.declared.EndWord.{EndWord}
 use Rattle.paper.specs.declared.Refusal.{Refusal}
 use Rattle.paper.specs.declared.Answer.{Answer}
 use Rattle.paper.specs.declared.Answered.{Answered}
-use Rattle.paper.specs.declared.FirstRefusal.{FirstRefusal}
-use Rattle.paper.specs.declared.FirstRefusal.TheVariants.{Never, First}
 use Rattle.paper.proofs.LawfulAnswers.{form_on, shows_on}
 use Rattle.paper.proofs.AnswersWithoutTheRecord.{answer_of, record_of, answers_alike, reader_alike}
 use Rattle.items.proofs.ItemsByBytes.{NoRefusal}
 use Rattle.figures.specs.Counting.{added, Fits, HasFigure, Counting, figures_from}
 use Rattle.figures.proofs.AddedCounts.{part, entry, fits_more}
+use Rattle.std.specs.Prelude.{Option, Some, None}
+use Rattle.paper.specs.declared.Refused.{Refused}
 
 -- ---- an answer
 
 -- a refusal, or one that is passed over
 data RefusalOrNot (a : Answer) : Type 0 where
   refusal : (n : Refusal) → a ≡ Answer.Refused n → RefusalOrNot a
-  other : ((later : FirstRefusal) (at : ℕ) → refusal_or later at a ≡ later) → RefusalOrNot a
+  other : ((later : Option Refused) (at : ℕ) → refusal_or later at a ≡ later) → RefusalOrNot a
 
 -- and there are eleven words
 about : (a : Answer) → (word_of a < 11) × RefusalOrNot a
@@ -58,26 +58,26 @@ about (Answer.InStep n) = (omega arith, other (λ l at. refl))
 word_below : (a : Answer) → word_of a < 11
 word_below a = (about a).0
 
-first_last : (first : FirstRefusal) → first_of first Never ≡ first
-first_last Never = refl
-first_last (First n at) = refl
+first_last : (first : Option Refused) → first_of first None ≡ first
+first_last None = refl
+first_last (Some r) = refl
 
-first_more : (first later : FirstRefusal) (at : ℕ) (a : Answer) →
-    first_of (first_of first (refusal_or Never at a)) later ≡ first_of first (refusal_or later at a)
+first_more : (first later : Option Refused) (at : ℕ) (a : Answer) →
+    first_of (first_of first (refusal_or None at a)) later ≡ first_of first (refusal_or later at a)
 first_more first later at a = by first (about a).1
   where
-    by : (first : FirstRefusal) → RefusalOrNot a → first_of (first_of first (refusal_or Never at a)) later ≡ first_of first (refusal_or later at a)
-    by Never (refusal n e) = rw e
-    by Never (other keeps) = rw (keeps Never at, keeps later at)
-    by (First n k) x = refl
+    by : (first : Option Refused) → RefusalOrNot a → first_of (first_of first (refusal_or None at a)) later ≡ first_of first (refusal_or later at a)
+    by None (refusal n e) = rw e
+    by None (other keeps) = rw (keeps None at, keeps later at)
+    by (Some r) x = refl
 
 -- an answer that is no refusal leaves the first one
-pub first_stays : (first : FirstRefusal) (at : ℕ) (a : Answer) → NoRefusal a → first_of first (refusal_or Never at a) ≡ first
+pub first_stays : (first : Option Refused) (at : ℕ) (a : Answer) → NoRefusal a → first_of first (refusal_or None at a) ≡ first
 first_stays first at a never = by (about a).1
   where
-    by : RefusalOrNot a → first_of first (refusal_or Never at a) ≡ first
+    by : RefusalOrNot a → first_of first (refusal_or None at a) ≡ first
     by (refusal n e) = absurd (never n e)
-    by (other keeps) = ap (first_of first) (keeps Never at) ∙ first_last first
+    by (other keeps) = ap (first_of first) (keeps None at) ∙ first_last first
 
 -- ---- the start
 
@@ -87,9 +87,10 @@ zeros (suc n) zero = refl
 zeros (suc n) (suc w) = zeros n w
 
 pub counting_starts : (form : Form) (text : List ℕ) → length text ≤ longest_text →
-    Counting form text (replicate 11 0) Never (started form) 0
+    Counting form text (replicate 11 0) None (started form) 0
 counting_starts form text short = record {
-  fits = record { short = short; within = omega arith; words = refl; bounded = λ w. rw (zeros 11 w) (omega arith) };
+  fits = record { short = short; within = omega arith; bounded = λ w. rw (zeros 11 w) (omega arith) };
+  words = refl;
   in_form = refl;
   gr_shows_g1 = λ seven. refl;
   counted = λ w figure. rw (zeros 11 w) (omega arith);
@@ -101,7 +102,7 @@ pub one_and : (t : Bool) (n : ℕ) → (t gives 1 or 0) + n ≡ (t gives suc n o
 one_and true n = omega arith
 one_and false n = omega arith
 
-module _ {form : Form} {text counts : List ℕ} {first : FirstRefusal} {r : Reader} {place : ℕ}
+module _ {form : Form} {text counts : List ℕ} {first : Option Refused} {r : Reader} {place : ℕ}
     (c : Counting form text counts first r place) where
   -- ---- a byte: what the reader has recorded tells neither of the answers nor of the end
 
@@ -143,15 +144,16 @@ module _ {form : Form} {text counts : List ℕ} {first : FirstRefusal} {r : Read
         subst (λ (x : Answered). x.reader.form ≡ Form.Seven → x.reader.gr ≡ Element.G1) answers
         (shows_on r (get_or text place 0) c.gr_shows_g1)
 
-    goes_on : (after : List ℕ) → Fits text after (place + 1) →
+    goes_on : (after : List ℕ) → Fits text after (place + 1) → length after ≡ 11 →
         ((w : ℕ) → HasFigure w → get_or after w 0 ≡ get_or counts w 0 + part (word_of a.answer) 1 w) →
-        Counting form text after (first_of first (refusal_or Never place a.answer)) a.reader (place + 1)
+        Counting form text after (first_of first (refusal_or None place a.answer)) a.reader (place + 1)
     unfolding part
-    goes_on after fits one =
+    goes_on after fits words one =
         let f = rw (add-one place) at fits in
         rw (add-one place)
         (record {
           fits = f;
+          words = words;
           in_form = next_form ∙ c.in_form;
           gr_shows_g1 = next_shows;
           counted = λ w figure.
@@ -166,21 +168,22 @@ module _ {form : Form} {text counts : List ℕ} {first : FirstRefusal} {r : Read
           ends = sym next_end ∙ c.ends;
         })
 
-    pub counts_more : Counting form text (added counts (word_of a.answer) 1) (first_of first (refusal_or Never place a.answer))
+    pub counts_more : Counting form text (added counts (word_of a.answer) 1) (first_of first (refusal_or None place a.answer))
         a.reader (place + 1)
     counts_more =
         let k : ℕ = word_of a.answer in
-        let f = c.fits in
         let below = word_below a.answer in
-        goes_on (added counts k 1) (fits_more f k 1 below refl (omega arith)) (λ w figure. entry counts k 1 w (omega (arith, f.words)))
+        goes_on (added counts k 1) (fits_more c.fits k 1 refl (omega arith)) (length-set counts k (get_or counts k 0 + 1) ∙ c.words)
+        (λ w figure. entry counts k 1 w (omega (arith, c.words)))
 
     pub counts_no_more : (HasFigure (word_of a.answer) → ⊥) →
-        Counting form text counts (first_of first (refusal_or Never place a.answer)) a.reader (place + 1)
+        Counting form text counts (first_of first (refusal_or None place a.answer)) a.reader (place + 1)
     unfolding part
     counts_no_more no-figure =
         let f = c.fits in
         goes_on counts
-        (record { short = f.short; within = omega arith; words = f.words; bounded = λ w. omega (arith, f.bounded w) })
+        (record { short = f.short; within = omega arith; bounded = λ w. omega (arith, f.bounded w) })
+        c.words
         (λ w figure.
         rw (ne_eqb (word_of a.answer) w (λ e. no-figure (subst HasFigure (sym e) figure))) (omega arith))
 

@@ -1,15 +1,16 @@
 -- A byte that passes is an item that changes nothing, and so are SI, SPACE and SO together; so many bytes are counted at once, by
 -- induction.
-use Prim.Native.Nat.{ℕ, zero, suc, ◌+◌, ◌-◌, ◌≤◌, ◌<◌}
-use mathlib.Core.Path.{◌≡◌, refl, ap, ◌∙◌, subst}
+use Prim.Native.Nat.{ℕ, zero, suc, ◌+◌, ◌-◌, ◌≤◌, ◌<◌, min}
+use mathlib.Core.Path.{◌≡◌, refl, sym, ap, ◌∙◌, subst}
 use mathlib.Core.Bool.{Bool, true, false}
 use mathlib.Core.List.{List}
 use mathlib.Core.Logic.{⊎_elim}
 use native.Mathlib.Nat.{eq-or-lt_of_le}
 use native.Mathlib.Omega.{arith}
+use mir.Val.{bool_byte}
 use borrow.Author.Tests.{le-leb, lt-leb, lt-ltb, le-ltb, ltb-true}
 use lib.Dec.{leb, ltb}
-use lib.ListN.{length, get_or, length-set}
+use lib.ListN.{length, get_or, take, drop, length-set, length-drop}
 use Rattle.paper.specs.Choice.{◌gives◌or◌}
 use Rattle.paper.specs.Sets.{space}
 use Rattle.paper.specs.Results.{char_word, space_word, control_word, shift_word}
@@ -26,8 +27,11 @@ use Rattle.lane.proofs.LettersPass.{letter_passes}
 use Rattle.lane.proofs.GapItems.{after_in, after_space, gap_items}
 use Rattle.items.specs.States.{single_in}
 use Rattle.items.specs.Letters.{is_letter}
+use Rattle.std.specs.Prelude.{count_by}
+use Rattle.std.proofs.lemmas.List.Sums.{count_by_more_no, count_by_more_yes}
+use Rattle.std.proofs.lemmas.List.{get_or-drop, get_or-take, length-take}
 use Rattle.figures.specs.Counting.{added, tally, Takes, up_to, Fits, Counts, GoesOn}
-use Rattle.figures.specs.Runs.{byte_before, LaneGoesOn}
+use Rattle.figures.specs.Runs.{LaneGoesOn}
 use Rattle.figures.proofs.AddedCounts.{part, part_more, part_of_none, entry, takes, tally_is}
 use Rattle.figures.proofs.CountingByItems.{in_state, item_counts, plain_counts}
 
@@ -69,22 +73,36 @@ unfolding byte_ahead
 letter_ahead form cells text place inside byte letter is =
     rw (is, lt-ltb place (length text) inside, letter_passes form cells (get_or text place 0) byte letter)
 
--- a byte before an end that passes, and one that does not, which is not the first of so many if the first passes
-pub before_passes : (lane : Lane) (text : List ℕ) (here end : ℕ) → byte_before lane text here end ≡ true →
-    (here < length text) × (passes lane (get_or text here 0) ≡ true)
-unfolding byte_before byte_ahead
-before_passes lane text here end e =
-    let ahead = (both_true (ltb here end) (byte_ahead lane text here) e).1 in
-    let both = both_true (ltb here (length text)) (passes lane (get_or text here 0)) ahead in
-    (ltb-true here (length text) both.0, both.1)
+-- a byte ahead among the first of a text, which passes
+pub record Ahead (lane : Lane) (text : List ℕ) (end here : ℕ) : Type 0 where
+  pub first : here < length (take end text)
+  pub inside : here < length text
+  pub same : get_or (take end text) here 0 ≡ get_or text here 0
+  pub passed : passes lane (get_or text here 0) ≡ true
 
-pub past_the_first : (lane : Lane) (text : List ℕ) (place here many : ℕ) → 0 < many → place ≤ here →
-    byte_before lane text here (place + many) ≡ false → byte_ahead lane text place ≡ true → place < here
-unfolding byte_before
-past_the_first lane text place here many some from out ahead =
+pub ahead_passes : (lane : Lane) (text : List ℕ) (end here : ℕ) → byte_ahead lane (take end text) here ≡ true → Ahead lane text end here
+unfolding byte_ahead
+ahead_passes lane text end here e =
+    let first : List ℕ = take end text in
+    let both = both_true (ltb here (length first)) (passes lane (get_or first here 0)) e in
+    let long = length-take end text in
+    let inside : here < length first = ltb-true here (length first) both.0 in
+    let before : here < end = omega arith in
+    let same = get_or-take end text here 0 before in
+    record { first = inside; inside = omega arith; same = same; passed = rw (← same) both.1 }
+
+-- one that does not, which is not the first if that passes
+pub past_the_first : (lane : Lane) (text : List ℕ) (end place here : ℕ) → end ≡ min (length text) (place + 24) → place ≤ here →
+    byte_ahead lane (take end text) here ≡ false → byte_ahead lane text place ≡ true → place < here
+unfolding byte_ahead
+past_the_first lane text end place here is_end from out ahead =
     ⊎_elim
     (λ (same : place ≡ here).
-    let there : byte_before lane text place (place + many) ≡ true = rw (lt-ltb place (place + many) (omega arith), ahead) in
+    let both = both_true (ltb place (length text)) (passes lane (get_or text place 0)) ahead in
+    let inside = ltb-true place (length text) both.0 in
+    let some : place < end = omega arith in
+    let there : byte_ahead lane (take end text) place ≡ true =
+    rw (get_or-take end text place 0 some, lt-ltb place (length (take end text)) (omega (arith, length-take end text))) both.1 in
     impossible (cc (out, there, same)))
     (λ less. less)
     (eq-or-lt_of_le from)
@@ -157,11 +175,41 @@ one_by_one spaced text counts place zero = counts
 one_by_one spaced text counts place (suc n) =
     added (one_by_one spaced text counts place n) (word_in spaced (get_or text (place + n) 0)) 1
 
-up_to_in_order : (text : List ℕ) (place n : ℕ) → (up_to (space - 1) text place n ≤ up_to space text place n) × (up_to space text place n ≤ n)
-up_to_in_order text place zero = (omega arith, omega arith)
-up_to_in_order text place (suc n) =
+up_to_none : (bound : ℕ) (text : List ℕ) (place : ℕ) → up_to bound text place 0 ≡ 0
+unfolding up_to
+up_to_none bound text place =
+    let none : place + 0 - place ≡ 0 = omega arith in ap (λ (n : ℕ). count_by (λ b. leb b bound) (take n (drop place text))) none
+
+up_to_more : (bound : ℕ) (text : List ℕ) (place n : ℕ) → place + n < length text →
+    up_to bound text place (suc n) ≡ up_to bound text place n + bit bound (get_or text (place + n) 0)
+unfolding up_to
+up_to_more bound text place n inside =
+    let more : place + suc n - place ≡ n + 1 = omega arith in
+    let here : place + n - place ≡ n = omega arith in
+    rw (more, here, ← get_or-drop place text n 0) (by (leb (get_or rest n 0) bound) refl)
+  where
+    rest : List ℕ
+    rest = drop place text
+
+    low : ℕ → Bool
+    low b = leb b bound
+
+    below : n < length rest
+    below = omega (arith, length-drop place text)
+
+    by : (t : Bool) → low (get_or rest n 0) ≡ t → count_by low (take (n + 1) rest) ≡ count_by low (take n rest) + (t gives 1 or 0)
+    by true e = count_by_more_yes low rest n 0 below e
+    by false e = omega (arith, count_by_more_no low rest n 0 below e)
+
+up_to_in_order : (text : List ℕ) (place n : ℕ) → place + n ≤ length text →
+    (up_to (space - 1) text place n ≤ up_to space text place n) × (up_to space text place n ≤ n)
+up_to_in_order text place zero inside =
+    let low = up_to_none (space - 1) text place in let all = up_to_none space text place in (omega arith, omega arith)
+up_to_in_order text place (suc n) inside =
     let o = one_byte_lem true (get_or text (place + n) 0) in
-    let h = up_to_in_order text place n in
+    let h = up_to_in_order text place n (omega arith) in
+    let low = up_to_more (space - 1) text place n (omega arith) in
+    let all = up_to_more space text place n (omega arith) in
     (omega (arith, o.below, o.low), omega (arith, o.low, o.all))
 
 module _ (spaced : Bool) (text counts : List ℕ) (place : ℕ) (words : length counts ≡ 11) where
@@ -169,16 +217,18 @@ module _ (spaced : Bool) (text counts : List ℕ) (place : ℕ) (words : length 
   eleven zero = words
   eleven (suc n) = length-set (one_by_one spaced text counts place n) _ _ ∙ eleven n
 
-  entries : (n w : ℕ) →
+  entries : (n w : ℕ) → place + n ≤ length text →
       get_or (one_by_one spaced text counts place n) w 0 ≡
       get_or counts w 0 + part control_word (up_to (space - 1) text place n) w +
       part (word_in spaced space) (up_to space text place n - up_to (space - 1) text place n) w + part char_word (n - up_to space text place n) w
-  entries zero w =
-      omega (arith, part_of_none control_word w, part_of_none (word_in spaced space) w, part_of_none char_word w)
-  entries (suc n) w =
+  entries zero w inside =
+      rw (up_to_none (space - 1) text place, up_to_none space text place)
+      (omega (arith, part_of_none control_word w, part_of_none (word_in spaced space) w, part_of_none char_word w))
+  entries (suc n) w inside =
       let b : ℕ = get_or text (place + n) 0 in
       let o = one_byte_lem spaced b in
-      let h = up_to_in_order text place n in
+      let within : place + n ≤ length text = omega arith in
+      let h = up_to_in_order text place n within in
       let l = eleven n in
       let k = known_word spaced b in
       let controls : ℕ = up_to (space - 1) text place n in
@@ -186,16 +236,27 @@ module _ (spaced : Bool) (text counts : List ℕ) (place : ℕ) (words : length 
       let is_control_lem : controls + bit (space - 1) b ≡ controls + o.control = omega (arith, o.below) in
       let is_space : low + bit space b - (controls + bit (space - 1) b) ≡ low - controls + o.space_sign = omega (arith, o.below, o.low) in
       let is_other : suc n - (low + bit space b) ≡ n - low + o.other = omega (arith, o.low, o.all) in
-      rw (is_other, is_space, is_control_lem)
+      rw (
+        up_to_more (space - 1) text place n (omega arith),
+        up_to_more space text place n (omega arith),
+        is_other,
+        is_space,
+        is_control_lem,
+      )
       (omega (
         arith,
         entry (one_by_one spaced text counts place n) (word_in spaced b) 1 w (omega arith),
-        entries n w,
+        entries n w within,
         o.words w,
         part_more control_word controls o.control w,
         part_more (word_in spaced space) (low - controls) o.space_sign w,
         part_more char_word (n - low) o.other w,
       ))
+
+-- a truth is one at most
+pub one_bit : (t : Bool) → bool_byte t ≤ 1
+one_bit true = omega arith
+one_bit false = omega arith
 
 -- ---- a run
 
@@ -211,7 +272,7 @@ pub record Passed (lane : Lane) (text : List ℕ) (place here controls low : ℕ
 pub passed_most : {lane : Lane} {text : List ℕ} {place here controls low : ℕ} → Passed lane text place here controls low →
     (controls ≤ low) × (place + low ≤ here) × (here ≤ length text)
 passed_most {text = text} {place} p =
-    let h = up_to_in_order text place p.many in
+    let h = up_to_in_order text place p.many p.inside in
     (omega (arith, p.controls_are, p.low_are), omega (arith, p.at, p.low_are), omega (arith, p.at, p.inside))
 
 -- what they take of the counts
@@ -225,8 +286,8 @@ none_passed lane text place within = record {
   many = 0;
   at = omega arith;
   inside = omega arith;
-  controls_are = refl;
-  low_are = refl;
+  controls_are = sym (up_to_none (space - 1) text place);
+  low_are = sym (up_to_none space text place);
   pass = λ k h. absurd (omega arith);
 }
 
@@ -249,7 +310,7 @@ passed_on {lane} {text} {place} {here} p inside passed controls-is low-is = reco
   where
     one_more_lem : (bound : ℕ) {x y : ℕ} → x ≡ up_to bound text place p.many → y ≡ x + bit bound (get_or text here 0) →
         y ≡ up_to bound text place (suc p.many)
-    one_more_lem bound e f = rw (f, e, ← p.at)
+    one_more_lem bound e f = f ∙ rw (e, p.at) (sym (up_to_more bound text place p.many (omega (arith, p.at, inside))))
 
 pub letter_more : {lane : Lane} {text : List ℕ} {place here controls low : ℕ} → Passed lane text place here controls low →
     here < length text → passes lane (get_or text here 0) ≡ true → space < get_or text here 0 → Passed lane text place (here + 1) controls low
@@ -261,25 +322,33 @@ letter_more {text = text} {here = here} p inside passed high =
 
 pub low_more : {lane : Lane} {text : List ℕ} {place here controls low : ℕ} → Passed lane text place here controls low →
     here < length text → passes lane (get_or text here 0) ≡ true → get_or text here 0 ≤ space → {more : ℕ} →
-    more ≡ (ltb (get_or text here 0) space gives 1 or 0) → Passed lane text place (here + 1) (controls + more) (low + 1)
+    more ≡ bool_byte (ltb (get_or text here 0) space) → Passed lane text place (here + 1) (controls + more) (low + 1)
 low_more {text = text} {here = here} p inside passed few is =
     let b : ℕ = get_or text here 0 in
     let is_low : bit space b ≡ 1 = rw (le-leb b space few) in
     passed_on p inside passed (rw (is, ⊎_elim below not_below (less_or_not b space))) (omega (arith, is_low))
   where
-    below : get_or text here 0 < space → (ltb (get_or text here 0) space gives 1 or 0) ≡ bit (space - 1) (get_or text here 0)
+    below : get_or text here 0 < space → bool_byte (ltb (get_or text here 0) space) ≡ bit (space - 1) (get_or text here 0)
     below less = rw (lt-ltb (get_or text here 0) space less, le-leb (get_or text here 0) (space - 1) (omega arith))
 
-    not_below : space ≤ get_or text here 0 → (ltb (get_or text here 0) space gives 1 or 0) ≡ bit (space - 1) (get_or text here 0)
+    not_below : space ≤ get_or text here 0 → bool_byte (ltb (get_or text here 0) space) ≡ bit (space - 1) (get_or text here 0)
     not_below from = rw (le-ltb (get_or text here 0) space from, lt-leb (get_or text here 0) (space - 1) (omega arith))
 
-up_to_on : (bound : ℕ) (text : List ℕ) (place m n : ℕ) →
+up_to_on : (bound : ℕ) (text : List ℕ) (place m n : ℕ) → place + (m + n) ≤ length text →
     up_to bound text place (m + n) ≡ up_to bound text place m + up_to bound text (place + m) n
-up_to_on bound text place m zero = let e : m + 0 ≡ m = omega arith in ap (up_to bound text place) e ∙ (omega arith)
-up_to_on bound text place m (suc n) =
+up_to_on bound text place m zero inside =
+    let e : m + 0 ≡ m = omega arith in ap (up_to bound text place) e ∙ omega (arith, up_to_none bound text (place + m))
+up_to_on bound text place m (suc n) inside =
     let e : m + suc n ≡ suc (m + n) = omega arith in
     let at : place + (m + n) ≡ place + m + n = omega arith in
-    ap (up_to bound text place) e ∙ omega (arith, up_to_on bound text place m n, ap (λ (k : ℕ). bit bound (get_or text k 0)) at)
+    ap (up_to bound text place) e ∙
+    omega (
+      arith,
+      up_to_more bound text place (m + n) (omega arith),
+      up_to_more bound text (place + m) n (omega arith),
+      up_to_on bound text place m n (omega arith),
+      ap (λ (k : ℕ). bit bound (get_or text k 0)) at,
+    )
 
 pub block_more : {lane : Lane} {text : List ℕ} {place here controls low : ℕ} → Passed lane text place here controls low →
     block_ahead lane text here ≡ true → {more more_low : ℕ} → more ≡ up_to (space - 1) text here 16 → more_low ≡ up_to space text here 16 →
@@ -301,7 +370,8 @@ block_more {lane} {text} {place} {here} p block is-more is-more-low = record {
   where
     with_block : (bound : ℕ) {x y : ℕ} → x ≡ up_to bound text place p.many → y ≡ up_to bound text here 16 →
         x + y ≡ up_to bound text place (p.many + 16)
-    with_block bound e f = rw (up_to_on bound text place p.many 16, ← p.at, e, f)
+    with_block bound e f =
+        rw (up_to_on bound text place p.many 16 (omega (arith, p.at, block_inside lane text here block)), ← p.at, e, f)
 
 module _ (form : Form) (text cells : List ℕ) (ground : single_in cells ≡ 0) {counts : List ℕ} {place : ℕ} where
   by_bytes : {lane : Lane} → lane ≡ lane_of form cells → (n : ℕ) → place + n ≤ length text →
@@ -322,11 +392,11 @@ module _ (form : Form) (text cells : List ℕ) (ground : single_in cells ≡ 0) 
   blocks_count is p first c =
       let spaced : Bool = has_space cells in
       let n : ℕ = p.many in
-      let words : length counts ≡ 11 = c.counting.fits.words in
+      let words : length counts ≡ 11 = c.counting.words in
       let all : place + n - place ≡ n = omega arith in
       let same = tally_is counts words (word_in spaced space) (up_to (space - 1) text place n)
       (up_to space text place n - up_to (space - 1) text place n) (n - up_to space text place n) (known_word spaced space)
-      (one_by_one spaced text counts place n) (eleven spaced text counts place words n) (entries spaced text counts place words n) in
+      (one_by_one spaced text counts place n) (eleven spaced text counts place words n) (λ w. entries spaced text counts place words n w p.inside) in
       rw (p.at, p.controls_are, p.low_are, all, ← same) (by_bytes is n p.inside p.pass first c)
 
 -- so many bytes that pass are counted at once

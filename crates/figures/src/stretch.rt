@@ -1,24 +1,26 @@
 // A stretch of a text, from its start or after an opening: counted from the starting state on, up to the next opening, a refusal or the
 // end. Items are read whole, and runs of the lane are counted sixteen bytes at a time.
-ghost use Rattle.std.specs.Prelude.{◌≡◌, length};
-ghost use Rattle.paper.specs.declared.FirstRefusal.{FirstRefusal};
+ghost use Rattle.std.specs.Prelude.{◌≡◌, length, Option};
+ghost use Rattle.paper.specs.declared.Refused.{Refused};
 ghost use Rattle.items.specs.States.{starting_cells};
 ghost use Rattle.figures.specs.Counting.{Counts, end_after};
 ghost use Rattle.figures.specs.Stretches.{stops_by, Onward, Ends};
 
-use crate::run::{add, count_run};
-use escapes::effect::{CHAR_WORD, Effect, ElementNumber, REFUSED_WORD};
-use items::item::{OPENING_WORD, read_item};
+use crate::counts::WordCounts;
+use crate::run::count_run;
+use escapes::effect::{Effect, ElementNumber, Word};
+use items::item::read_item;
 use items::letter::is_letter;
 use items::state::{NONE, change, single, starting};
 use lane::word_ahead;
-use paper::{EndWord, Form};
+use paper::{EndWord, Form, Refused};
+use refusals::refusal_of;
 
-// How a stretch ends: with an opening, by the place after it; with a refusal, by its number and its place; or with the text.
+// How a stretch ends: with an opening, by the place after it; with a refusal; or with the text.
 #[derive(Clone, Copy)]
 pub(crate) enum Ending {
     Opens { next: usize },
-    Stops { number: u8, there: usize },
+    Stops(Refused),
     Over(EndWord),
 }
 
@@ -38,51 +40,43 @@ fn end_after(taken: ElementNumber) -> EndWord
 fn stops(effect: Effect, place: usize, length: usize) -> Ending
     ensures { result ≡ stops_by effect place length }
 {
-    let word = effect.word;
-    if word.0 == OPENING_WORD {
-        return Ending::Opens { next: place };
-    }
-    if place < length {
-        Ending::Stops {
-            number: effect.value,
-            there: place,
-        }
+    if effect.word == Word::OPENING {
+        Ending::Opens { next: place }
+    } else if place < length {
+        let refusal = refusal_of(effect.value);
+        Ending::Stops(Refused { refusal, place })
     } else {
         Ending::Over(EndWord::Inside)
     }
 }
 
 // The stretch from a place on.
-pub(crate) fn stretch(form: Form, text: &[u8], place: usize, counts: &mut [usize]) -> Ending
-    requires { (first : FirstRefusal) × Counts form text.now starting_cells counts.old first place }
+pub(crate) fn stretch(form: Form, text: &[u8], place: usize, counts: &mut WordCounts) -> Ending
+    requires { (first : Option Refused) × Counts form text.now starting_cells counts.old first place }
     ensures onward { Onward place result }
-    ensures ends { (first : FirstRefusal) →
+    ensures ends { (first : Option Refused) →
         Counts form text.now starting_cells counts.old first place →
         Ends form text.now counts.new first result }
 {
     let mut state = starting();
     let mut here = place;
+    // no `for`: an item goes on to the place after it
     while here < text.len() {
-        if is_letter(form, &state, text[here]) {
-            if word_ahead(text, here) {
-                here = count_run(form, &state, text, here, counts);
-            } else {
-                add(counts, CHAR_WORD, 1);
-                here += 1;
-            }
-        } else {
+        if !is_letter(form, &state, text[here]) {
             let item = read_item(form, &state, text, here);
-            let effect = item.effect;
-            let word = effect.word;
             // the words from a refusal's on that an item can have here: a refusal, an opening
-            if word.0 >= REFUSED_WORD {
-                return stops(effect, item.place, text.len());
+            if item.effect.word.ends_stretch() {
+                return stops(item.effect, item.place, text.len());
             }
-            add(counts, word.0, 1);
-            change(&mut state, effect);
+            counts.add(item.effect.word, 1);
+            change(&mut state, item.effect);
             here = item.place;
+        } else if word_ahead(text, here) {
+            here = count_run(form, &state, text, here, counts);
+        } else {
+            counts.add(Word::CHAR, 1);
+            here += 1;
         }
     }
-    let end = end_after(single(&state));
-    Ending::Over(end)
+    Ending::Over(end_after(single(&state)))
 }

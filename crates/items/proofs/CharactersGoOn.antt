@@ -1,5 +1,5 @@
 -- A character that is read whole: its bytes but the last are answered with nothing yet, and the last with the character.
-use Rattle.std.proofs.Common.{◌≡◌, ℕ, ◌+◌, ◌<◌, Bool, true, false, ltb, leb, List, length, get_or}
+use Rattle.std.proofs.Common.{◌≡◌, ℕ, ◌+◌, ◌<◌, Bool, true, false, ltb, leb, List, length, get_or, Option}
 use Rattle.std.proofs.Common.{sym, refl, ap, ◌∙◌, subst, leb-false, leb-true}
 use Rattle.paper.specs.Choice.{◌gives◌or◌}
 use Rattle.paper.specs.CodeTable.{form_has}
@@ -27,6 +27,8 @@ use Rattle.items.specs.States.{size_in, Single, cells_of}
 use Rattle.items.specs.Items.{Item, character_of, refusal_of_byte, later_at, taken_or, of_three, third_of_three, by_count, character_at}
 use Rattle.items.proofs.ItemsByBytes.{WaitsOn, here, cells, IsGood, At, in_form_here, not_in_form, waits_on, says_well, stops_at}
 use Rattle.items.proofs.ItemsByBytes.{ends_inside}
+use Rattle.escapes.specs.Effects.{as_word}
+use Rattle.paper.specs.Results.{char_word}
 
 -- ---- sizes
 
@@ -89,7 +91,7 @@ module _ (m : Form) (text : List ℕ) (P : Reader → ℕ → Type 0) (on : Wait
       Right (taken_or (later_at m a (set e).kind text place) place i)
   unfolding later_at
   later_right e a ps place i p right =
-      let Q : ℕ → Type 0 = λ (n : ℕ). Right (taken_or n place i) in
+      let Q : Option Refusal → Type 0 = λ (n : Option Refusal). Right (taken_or n place i) in
       let b : ℕ = get_or text place 0 in
       let w : Within = inside_of e a ps in
       gives_by Q (leb (length text) place)
@@ -109,8 +111,8 @@ module _ (m : Form) (text : List ℕ) (P : Reader → ℕ → Type 0) (on : Wait
       ltb (bytes_so_far ps) (bytes_of (set e).count) ≡ false → Right (character_of (element_number e) (position_values ps) (place + 1))
   unfolding character
   all_bytes_lem {w} p below e a ps is whole =
-      says_well m text P on t gl gr single left start p below (Answer.Char e (set e) ps) (element_number e) (λ n f. impossible (cc)) refl
-      (is ∙ ap (λ (t : Bool). t gives waits (inside_of e a ps) (reader w) or says (Answer.Char e (set e) ps) (reader w)) whole)
+      says_well m text P on t gl gr single left start p below (Answer.Char e (set e) ps) (as_word char_word) (element_number e) refl
+      (λ n f. impossible (cc)) refl (is ∙ ap (λ (t : Bool). t gives waits (inside_of e a ps) (reader w) or says (Answer.Char e (set e) ps) (reader w)) whole)
 
   not_yet : {w : Within} {place : ℕ} → Came w place → place < length text → (e : Element) (a : GraphicArea) (ps : PositionBytes) →
       answer_of (reader w) (get_or text place 0) ≡ character e (set e) a ps (reader w) →

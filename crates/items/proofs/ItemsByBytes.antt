@@ -21,7 +21,8 @@ use Rattle.paper.specs.declared.Answer.{Answer}
 use Rattle.paper.proofs.AnswersWithoutTheRecord.{answer_of}
 use Rattle.paper.proofs.OpeningsTakenWhole.{Elsewhere}
 use Rattle.paper.proofs.ReadingOn.{reader_with, in_form}
-use Rattle.escapes.specs.Effects.{plain}
+use Rattle.escapes.specs.Effects.{word_number, plain}
+use Rattle.escapes.specs.declared.effect.Word.{Word}
 use Rattle.items.specs.States.{changed, Single, none, cells_of, Stands}
 use Rattle.items.specs.Items.{Item, refused, opening_item}
 
@@ -78,7 +79,7 @@ pub record LastByte (text : List ℕ) (P : Reader → ℕ → Type 0) (start : �
   pub next : Reader
   pub answers : answer_of reader (get_or text place 0) ≡ record { answer = answer; reader = next }
   pub no_refusal : NoRefusal answer
-  pub word_is : i.effect.word.0 ≡ word_of answer
+  pub word_is : word_number i.effect.word ≡ word_of answer
   pub bytes_are : i.bytes ≡ said_bytes answer
   pub value_is : Said answer i.effect.value
   pub has : Stands (changed i.effect cells) next
@@ -131,12 +132,12 @@ refusal_by_word Answer.Skipped never e = omega arith
 refusal_by_word (Answer.InStep x) never e = omega arith
 
 module _ {text : List ℕ} {P : Reader → ℕ → Type 0} {start : ℕ} {t : Sets} {cells : List ℕ} {i : Item} where
-  pub good_reads : Good text P start t cells i → (i.effect.word.0 ≡ refused_word → ⊥) → LastByte text P start t cells i
+  pub good_reads : Good text P start t cells i → (word_number i.effect.word ≡ refused_word → ⊥) → LastByte text P start t cells i
   good_reads (reads l) other = l
-  good_reads (stops (refused_at n there e r)) other = absurd (other (ap (λ (x : Item). x.effect.word.0) e))
-  good_reads (stops (ends_inside_at there e r)) other = absurd (other (ap (λ (x : Item). x.effect.word.0) e))
+  good_reads (stops (refused_at n there e r)) other = absurd (other (ap (λ (x : Item). word_number x.effect.word) e))
+  good_reads (stops (ends_inside_at there e r)) other = absurd (other (ap (λ (x : Item). word_number x.effect.word) e))
 
-  pub good_stops : Good text P start t cells i → i.effect.word.0 ≡ refused_word → Stopped text P start i
+  pub good_stops : Good text P start t cells i → word_number i.effect.word ≡ refused_word → Stopped text P start i
   good_stops (reads l) is = absurd (refusal_by_word l.answer l.no_refusal (sym l.word_is ∙ is))
   good_stops (stops r) is = r
 
@@ -179,7 +180,7 @@ module _ (m : Form) (text : List ℕ) (P : Reader → ℕ → Type 0) (on : Wait
   -- an answer that is no refusal
   pub ends_well : {w : Within} {place : ℕ} {i : Item} → At w place → place < length text → i.place ≡ place + 1 →
       (a : Answer) (next : Reader) → answer_of (here w) (byte place) ≡ record { answer = a; reader = next } → NoRefusal a →
-      i.effect.word.0 ≡ word_of a → i.bytes ≡ said_bytes a → Said a i.effect.value → Stands (changed i.effect cells) next → IsGood i
+      word_number i.effect.word ≡ word_of a → i.bytes ≡ said_bytes a → Said a i.effect.value → Stands (changed i.effect cells) next → IsGood i
   ends_well {w} {place} p inside ends a next is no_refusal word bytes value has = reads (record {
     reader = here w;
     place = place;
@@ -199,11 +200,11 @@ module _ (m : Form) (text : List ℕ) (P : Reader → ℕ → Type 0) (on : Wait
   })
 
   -- one that leaves the reader on the ground
-  pub says_well : {w : Within} {place : ℕ} → At w place → place < length text → (a : Answer) (v : ℕ) → NoRefusal a → Said a v →
-      answer_of (here w) (byte place) ≡ says a (here w) →
-      IsGood (record { effect = plain (word_of a) v; bytes = said_bytes a; place = place + 1 })
-  says_well p inside a v no_refusal said is =
-      ends_well p inside refl a (here Within.Ground) is no_refusal refl refl said
+  pub says_well : {w : Within} {place : ℕ} → At w place → place < length text → (a : Answer) (word : Word) (v : ℕ) →
+      word_number word ≡ word_of a → NoRefusal a → Said a v → answer_of (here w) (byte place) ≡ says a (here w) →
+      IsGood (record { effect = plain word v; bytes = said_bytes a; place = place + 1 })
+  says_well p inside a word v of_answer no_refusal said is =
+      ends_well p inside refl a (here Within.Ground) is no_refusal of_answer refl said
       (record { single = none; left = v; has = refl; stands = refl; nothing_gone = refl })
 
   -- a refusal

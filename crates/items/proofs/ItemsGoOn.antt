@@ -10,7 +10,7 @@ use Rattle.paper.specs.Sets.{space, delete, set_in, set_byte}
 use Rattle.paper.specs.Sequences.{c1_function}
 use Rattle.paper.specs.Characters.{waits, shifts, says, position_in, byte_in, c0_byte, of_character, first_in_gl}
 use Rattle.paper.specs.Answering.{ground_at}
-use Rattle.paper.specs.Results.{element_number, space_word, delete_word}
+use Rattle.paper.specs.Results.{element_number}
 use Rattle.paper.specs.declared.Area.{Area}
 use Rattle.paper.specs.declared.Form.{Form}
 use Rattle.paper.specs.declared.Kind.{Kind}
@@ -31,6 +31,7 @@ use Rattle.paper.specs.declared.Answer.{Answer}
 use Rattle.paper.proofs.AnswersWithoutTheRecord.{answer_of}
 use Rattle.paper.proofs.Choices.{impossible, gives_by}
 use Rattle.paper.proofs.OpeningsTakenWhole.{Elsewhere}
+use Rattle.escapes.specs.declared.effect.Word.{Word}
 use Rattle.items.specs.States.{single_in, size_in, element_of, Single, none, one, single_number, within_of, cells_of, Stands}
 use Rattle.items.specs.Items.{Item, refused, control_at, graphic_area, element_in, not_of_set_at, by_set_byte, graphic_in}
 use Rattle.items.specs.Items.{graphic_at, is_control}
@@ -41,6 +42,8 @@ use Rattle.items.proofs.ItemsByBytes.{here, cells, IsGood, At, in_form_here, not
 use Rattle.items.proofs.SequencesAsWritten.{of_function}
 use Rattle.items.proofs.SequencesGoOn.{shift_right, means_right, after_escape_lem}
 use Rattle.items.proofs.CharactersGoOn.{kind_in, whole_right}
+use Rattle.escapes.specs.Effects.{as_word}
+use Rattle.paper.specs.Results.{space_word, delete_word, control_word}
 
 -- ---- SPACE and DELETE are one byte each
 
@@ -138,7 +141,7 @@ module _ (m : Form) (text : List ℕ) (P : Reader → ℕ → Type 0) (on : Wait
           (λ e. shift_right m text P on t gl gr single left place Within.Ground place p inside Shift.LS1 (is ∙ c0_so b ground no_esc e))
           (λ no_so. gives_by Right (eqb b si)
           (λ e. shift_right m text P on t gl gr single left place Within.Ground place p inside Shift.LS0 (is ∙ c0_si b ground no_esc no_so e))
-          (λ no_si. says_well m text P on t gl gr single left place p inside (Answer.Control ControlElement.C0 t.c0 b) b
+          (λ no_si. says_well m text P on t gl gr single left place p inside (Answer.Control ControlElement.C0 t.c0 b) (as_word control_word) b refl
           (λ n e. impossible (cc)) (refl, low) (is ∙ c0_else b ground no_esc no_so no_si)))))
 
       of_c1 : area_of b ≡ Area.C1 → Right (control_or_sequence m b text place)
@@ -156,23 +159,23 @@ module _ (m : Form) (text : List ℕ) (P : Reader → ℕ → Type 0) (on : Wait
       unfolding not_of_set_at
       in_gl low SetByte.OfSpace e is =
           rw (lt-ltb b bit8 low, e)
-          (says_well m text P on t gl gr single left place p inside Answer.Space 0 (λ n f. impossible (cc)) tt is)
+          (says_well m text P on t gl gr single left place p inside Answer.Space (as_word space_word) 0 refl (λ n f. impossible (cc)) tt is)
       in_gl low SetByte.OfDelete e is =
           rw (lt-ltb b bit8 low, e)
-          (says_well m text P on t gl gr single left place p inside Answer.Delete 0 (λ n f. impossible (cc)) tt is)
+          (says_well m text P on t gl gr single left place p inside Answer.Delete (as_word delete_word) 0 refl (λ n f. impossible (cc)) tt is)
       in_gl low SetByte.OfSet e is = whole_right m text P on t gl gr single left place p inside gl GraphicArea.GL b is
       in_gl low SetByte.Outside e is = stops_at m text P on t gl gr single left place Refusal.AnotherArea p inside is
 
     -- ---- a byte of GR on the ground, or after a single shift: both are read as a character's first byte
 
     first_right : {w : Within} → Came w → (u : ℕ) (a : GraphicArea) (e : Element) →
-        ((word : ℕ) → not_of_set_at u b word place (place + 1) ≡ refused Refusal.NotOfSet place) → (k : SetByte) →
+        ((word : Word) → not_of_set_at u b word place (place + 1) ≡ refused Refusal.NotOfSet place) → (k : SetByte) →
         answer_of (reader w) b ≡ of_character k e (set_in t e) a (PositionBytes.One (position_in a b)) b (reader w) →
         Right (by_set_byte k m u a (element_number e) (size_in known (element_number e)) b text place)
     first_right p u a e not-of-set SetByte.OfSpace is =
-        subst Right (sym (not-of-set space_word)) (stops_at m text P on t gl gr single left place Refusal.NotOfSet p inside is)
+        subst Right (sym (not-of-set (as_word space_word))) (stops_at m text P on t gl gr single left place Refusal.NotOfSet p inside is)
     first_right p u a e not-of-set SetByte.OfDelete is =
-        subst Right (sym (not-of-set delete_word)) (stops_at m text P on t gl gr single left place Refusal.NotOfSet p inside is)
+        subst Right (sym (not-of-set (as_word delete_word))) (stops_at m text P on t gl gr single left place Refusal.NotOfSet p inside is)
     first_right p u a e not-of-set SetByte.OfSet is = whole_right m text P on t gl gr single left place p inside e a b is
     first_right p u a e not-of-set SetByte.Outside is =
         stops_at m text P on t gl gr single left place Refusal.AnotherArea p inside is

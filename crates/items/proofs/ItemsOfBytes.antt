@@ -6,7 +6,7 @@ use Rattle.paper.specs.Choice.{◌gives◌or◌, between}
 use Rattle.paper.specs.CodeTable.{area_of, form_has, form_has_column, bit8, so, si, esc}
 use Rattle.paper.specs.Sets.{space, delete, set_byte}
 use Rattle.paper.specs.Characters.{position_in, byte_in}
-use Rattle.paper.specs.Results.{element_number, space_word, control_word}
+use Rattle.paper.specs.Results.{element_number}
 use Rattle.paper.specs.declared.Area.{Area}
 use Rattle.paper.specs.declared.Form.{Form}
 use Rattle.paper.specs.declared.Kind.{Kind}
@@ -26,6 +26,8 @@ use Rattle.items.specs.Items.{graphic_at, is_control, control_or_sequence, item_
 use Rattle.items.specs.Letters.{is_letter}
 use Rattle.items.proofs.FirstBytes.{opens_not}
 use Rattle.items.proofs.AreasOfBytes.{area_by, below_space, below_bit_8}
+use Rattle.escapes.specs.Effects.{as_word}
+use Rattle.paper.specs.Results.{space_word, control_word}
 
 -- ---- a byte on the ground, by its lower seven bits, whatever its area
 
@@ -125,7 +127,7 @@ module _ (m : Form) (cells text : List ℕ) (place : ℕ) (inside : place < leng
       by_byte other (form_has_area m b Area.C0 area (both_have_c0 m)) true (ap is_control area)
 
   pub control_item_lem : b < space → (b ≡ so → ⊥) → (b ≡ si → ⊥) → (b ≡ esc → ⊥) →
-      item_at m cells text place ≡ record { effect = plain control_word b; bytes = b ∷ []; place = place + 1 }
+      item_at m cells text place ≡ record { effect = plain (as_word control_word) b; bytes = b ∷ []; place = place + 1 }
   unfolding control_or_sequence control_at
   control_item_lem low no_so no_si no_esc =
       in_c0 low no_esc ∙ rw (ne_eqb b esc no_esc, lt-leb bit8 b (omega arith), ne_eqb b so no_so, ne_eqb b si no_si)
@@ -141,7 +143,7 @@ module _ (m : Form) (cells text : List ℕ) (place : ℕ) (inside : place < leng
   -- ---- SPACE
 
   pub space_item_lem : b ≡ space → kind_of (size_in cells (left_in cells)) ≡ Kind.Of94 →
-      item_at m cells text place ≡ record { effect = plain space_word 0; bytes = space ∷ []; place = place + 1 }
+      item_at m cells text place ≡ record { effect = plain (as_word space_word) 0; bytes = space ∷ []; place = place + 1 }
   unfolding graphic_area element_in element_of byte_in set_byte between not_of_set_at
   space_item_lem e of_94 =
       let area : area_of b ≡ Area.GL = below_bit_8 b (omega arith) (omega arith) in

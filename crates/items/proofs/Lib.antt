@@ -13,3 +13,4 @@ pub mod StatesKept
 pub mod TakenInside
 pub mod TextsReadOn
 pub mod OverTheBuffer
+pub mod PiecesPut

@@ -22,7 +22,7 @@ use Rattle.paper.specs.declared.Answer.{Answer}
 use Rattle.paper.proofs.AnswersWithoutTheRecord.{answer_of}
 use Rattle.paper.proofs.Choices.{impossible, gives_by}
 use Rattle.paper.proofs.WrittenBytes.{form_has_area, both_have_gl, intermediate_area, final_area}
-use Rattle.escapes.specs.Effects.{shift_effect, effect_of}
+use Rattle.escapes.specs.Effects.{word_number, shift_effect, effect_of}
 use Rattle.escapes.specs.declared.effect.Effect.{Effect}
 use Rattle.items.specs.States.{changed, Single, none, one, Stands}
 use Rattle.items.specs.Items.{Item, not_of_sequence, by_sequence_byte, inside_at, bytes_meant, meant_at, bytes_read, final_at, after_two, after_one}
@@ -108,7 +108,7 @@ module _ (m : Form) (text : List ℕ) (P : Reader → ℕ → Type 0) (on : Wait
   shift_then w Shift.SS2 = record { single = one Element.G2; left = left; has = refl; stands = refl; nothing_gone = refl }
   shift_then w Shift.SS3 = record { single = one Element.G3; left = left; has = refl; stands = refl; nothing_gone = refl }
 
-  shift_word_lem : (h : Shift) → (shift_effect h).word.0 ≡ 6
+  shift_word_lem : (h : Shift) → word_number (shift_effect h).word ≡ 6
   shift_word_lem Shift.LS0 = refl
   shift_word_lem Shift.LS1 = refl
   shift_word_lem Shift.LS2 = refl

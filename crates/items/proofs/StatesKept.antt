@@ -4,6 +4,7 @@ use Rattle.std.proofs.Common.{◌≡◌, ℕ, zero, suc, List, [], ◌∷◌, ge
 use Rattle.paper.specs.declared.Element.{Element}
 use Rattle.paper.specs.declared.Reader.{Reader}
 use Rattle.escapes.specs.Effects.{nowhere, plain}
+use Rattle.escapes.specs.declared.effect.Word.{Word}
 use Rattle.items.specs.States.{single_in, changed, Single, none, one, single_number, cells_of, Stands}
 
 -- the same but for that cell
@@ -39,6 +40,6 @@ pub on_ground_lem : {c : List ℕ} {r : Reader} (s : Stands c r) → single_in c
 on_ground_lem {c} {r} s ground =
     s.has ∙ ap (λ (t : Single). cells_of r t s.left) (no_single s.single (ap single_in (sym s.has) ∙ ground))
 
-pub plain_same : {c : List ℕ} {r : Reader} → Stands c r → single_in c ≡ 0 → (word value : ℕ) → Same (changed (plain word value) c) c
+pub plain_same : {c : List ℕ} {r : Reader} → Stands c r → single_in c ≡ 0 → (word : Word) (value : ℕ) → Same (changed (plain word value) c) c
 plain_same {c} s ground word value =
     subst (λ (l : List ℕ). Same (changed (plain word value) l) l) (sym (on_ground_lem s ground)) refl

@@ -1,12 +1,11 @@
 -- No rule of the paper: for contracts of this layer.
 -- An item of a text from its place on, by the paper's definitions for a byte.
-use Rattle.std.specs.Prelude.{ℕ, ◌+◌, ◌-◌, ◌%◌, Bool, true, false, List, [], ◌∷◌, length, drop, nat_eq, nat_le, nat_lt, slice_index}
+use Rattle.std.specs.Prelude.{ℕ, ◌+◌, ◌-◌, ◌%◌, Bool, true, false, List, [], ◌∷◌, length, drop, nat_eq, nat_le, nat_lt, slice_index, Option, Some, None}
 use Rattle.paper.specs.Choice.{◌gives◌or◌}
 use Rattle.paper.specs.CodeTable.{area_of, form_has, bit8, so, si, esc}
 use Rattle.paper.specs.Starting.{opening}
 use Rattle.paper.specs.Searching.{begins_with}
-use Rattle.paper.specs.Results.{element_number, control_size, char_word, space_word, delete_word, control_word, shift_word, refused_word}
-use Rattle.paper.specs.Results.{instep_word}
+use Rattle.paper.specs.Results.{element_number, control_size, control_word, shift_word, refused_word}
 use Rattle.paper.specs.Sequences.{sequence_byte, meaning_of, c1_function, intermediate_of, several, is_short, intermediate_of_controls}
 use Rattle.paper.specs.Characters.{position_in, byte_in}
 use Rattle.paper.specs.WrittenForms.{sequence_bytes}
@@ -23,11 +22,14 @@ use Rattle.paper.specs.declared.Intermediates.{Intermediates}
 use Rattle.paper.specs.declared.GraphicArea.{GraphicArea}
 use Rattle.paper.specs.declared.Refusal.{Refusal}
 use Rattle.charsets.specs.Sizes.{kind_of, count_of}
-use Rattle.escapes.specs.Effects.{plain, shows_in_gl, effect_of}
+use Rattle.escapes.specs.Effects.{word_number, plain, shows_in_gl, effect_of}
+use Rattle.escapes.specs.declared.effect.Word.{Word}
 use Rattle.escapes.specs.declared.effect.Effect.{Effect}
 use Rattle.items.specs.Pieces.{bytes_in}
 use Rattle.items.specs.States.{single_in, size_in, element_of}
 use Rattle.items.specs.declared.item.Item as declared
+use Rattle.escapes.specs.Effects.{opening_word, past_word, as_word}
+use Rattle.paper.specs.Results.{char_word, space_word, delete_word}
 
 -- what it does, its bytes, and the place after it. Of a character the value is its element and the bytes are its position bytes; an opening
 -- has none; the bytes of all else are what it is written as in 8-bit form
@@ -40,28 +42,21 @@ abbrev pub item_of : declared.Item → Item
 item_of i = record { effect = i.effect; bytes = bytes_in i.piece; place = i.place }
 
 abbrev pub character_of : ℕ → List ℕ → ℕ → Item
-character_of element bytes place = record { effect = plain char_word element; bytes = bytes; place = place }
+character_of element bytes place = record { effect = plain (as_word char_word) element; bytes = bytes; place = place }
 
--- a refusal has its number and its place
-abbrev pub stopped : ℕ → ℕ → Item
-stopped number place = record { effect = plain refused_word number; bytes = []; place = place }
+-- a shift, an opening, what is past the end of a text, and a refusal, which has its number and its place
+abbrev pub without_bytes : Effect → ℕ → Item
+without_bytes x place = record { effect = x; bytes = []; place = place }
 
 abbrev pub refused : Refusal → ℕ → Item
-refused n place = stopped (number_of n) place
+refused n place = without_bytes (plain (as_word refused_word) (number_of n)) place
 
--- an opening is an item of its own, and past the end of a text there is none: words after the paper's
-abbrev pub opening_word : ℕ
-opening_word = instep_word + 1
-
-abbrev pub past_word : ℕ
-past_word = opening_word + 1
-
--- taken whole: the place after it
+-- an opening is an item of its own, taken whole: the place after it
 abbrev pub opening_item : ℕ → Item
-opening_item place = record { effect = plain opening_word 0; bytes = []; place = place }
+opening_item place = without_bytes (plain (as_word opening_word) 0) place
 
 abbrev pub past_the_end : ℕ → Item
-past_the_end place = record { effect = plain past_word 0; bytes = []; place = place }
+past_the_end place = without_bytes (plain (as_word past_word) 0) place
 
 -- ---- sequences
 
@@ -83,14 +78,14 @@ inside_at m text place on end =
 -- of a shift nothing is written, of a C1 function its byte
 unfoldable pub bytes_meant : Effect → List ℕ → List ℕ
 bytes_meant x bytes =
-    nat_eq x.word.0 shift_word gives [] or
-    nat_eq x.word.0 control_word gives (bit8 + x.value % control_size) ∷ [] or
+    nat_eq (word_number x.word) shift_word gives [] or
+    nat_eq (word_number x.word) control_word gives (bit8 + x.value % control_size) ∷ [] or
     bytes
 
 -- a sequence or a C1 function that does this and has these bytes; the place of its last byte, and the next
 unfoldable pub meant_at : Effect → List ℕ → ℕ → ℕ → Item
 meant_at x bytes place next =
-    nat_eq x.word.0 refused_word gives refused Refusal.WithoutMeaning place or
+    nat_eq (word_number x.word) refused_word gives refused Refusal.WithoutMeaning place or
     record { effect = x; bytes = bytes_meant x bytes; place = next }
 
 -- what is written for a set of several bytes, by its intermediate: into G0 the short sequence where there is one
@@ -125,7 +120,7 @@ after_escape m text place =
 
 -- SO or SI: GL shows the element
 abbrev pub shifts : ℕ → ℕ → Item
-shifts element next = record { effect = shows_in_gl element; bytes = []; place = next }
+shifts element next = without_bytes (shows_in_gl element) next
 
 -- a byte of C0 or C1 that is not ESC: a byte of C1 is what ESC and its final are
 unfoldable pub control_at : ℕ → ℕ → ℕ → Item
@@ -133,29 +128,27 @@ control_at b place next =
     nat_le bit8 b gives meant_at (effect_of (c1_function (b - bit8))) [] place next or
     nat_eq b so gives shifts (element_number Element.G1) next or
     nat_eq b si gives shifts (element_number Element.G0) next or
-    record { effect = plain control_word b; bytes = b ∷ []; place = next }
+    record { effect = plain (as_word control_word) b; bytes = b ∷ []; place = next }
 
 -- ---- characters
 
--- a later byte of a character that is not refused
-abbrev pub taken : ℕ
-taken = 0
-
-abbrev pub refusal_of_byte : SetByte → ℕ
-refusal_of_byte SetByte.OfSpace = number_of Refusal.NotOfSet
-refusal_of_byte SetByte.OfDelete = number_of Refusal.NotOfSet
-refusal_of_byte SetByte.OfSet = taken
-refusal_of_byte SetByte.Outside = number_of Refusal.AnotherArea
+-- why a later byte of a character is refused, if it is
+abbrev pub refusal_of_byte : SetByte → Option Refusal
+refusal_of_byte SetByte.OfSpace = Some Refusal.NotOfSet
+refusal_of_byte SetByte.OfDelete = Some Refusal.NotOfSet
+refusal_of_byte SetByte.OfSet = None
+refusal_of_byte SetByte.Outside = Some Refusal.AnotherArea
 
 -- the byte at a place inside a character
-unfoldable pub later_at : Form → GraphicArea → Kind → List ℕ → ℕ → ℕ
+unfoldable pub later_at : Form → GraphicArea → Kind → List ℕ → ℕ → Option Refusal
 later_at m a k text place =
-    nat_le (length text) place gives number_of Refusal.EndsInside or
+    nat_le (length text) place gives Some Refusal.EndsInside or
     form_has m (slice_index text place) gives refusal_of_byte (byte_in a k (slice_index text place)) or
-    number_of Refusal.ByteOfEightBits
+    Some Refusal.ByteOfEightBits
 
-abbrev pub taken_or : ℕ → ℕ → Item → Item
-taken_or number place item = nat_eq number taken gives item or stopped number place
+abbrev pub taken_or : Option Refusal → ℕ → Item → Item
+taken_or None place item = item
+taken_or (Some n) place item = refused n place
 
 abbrev pub of_two : Form → GraphicArea → Kind → ℕ → ℕ → List ℕ → ℕ → Item
 of_two m a k e p text place =
@@ -187,15 +180,15 @@ unfoldable pub element_in : List ℕ → ℕ → ℕ → ℕ
 element_in cells t b = nat_eq t 0 gives element_of cells b or t
 
 -- 2/0 and 7/15 under 94 type: on the ground in GL they are SPACE and DELETE, elsewhere they are refused
-unfoldable pub not_of_set_at : ℕ → ℕ → ℕ → ℕ → ℕ → Item
+unfoldable pub not_of_set_at : ℕ → ℕ → Word → ℕ → ℕ → Item
 not_of_set_at t b word place next =
     nat_eq t 0 gives
     (nat_lt b bit8 gives record { effect = plain word 0; bytes = b ∷ []; place = next } or refused Refusal.NotOfSet place) or
     refused Refusal.NotOfSet place
 
 abbrev pub by_set_byte : SetByte → Form → ℕ → GraphicArea → ℕ → ℕ → ℕ → List ℕ → ℕ → Item
-by_set_byte SetByte.OfSpace m t a e x b text place = not_of_set_at t b space_word place (place + 1)
-by_set_byte SetByte.OfDelete m t a e x b text place = not_of_set_at t b delete_word place (place + 1)
+by_set_byte SetByte.OfSpace m t a e x b text place = not_of_set_at t b (as_word space_word) place (place + 1)
+by_set_byte SetByte.OfDelete m t a e x b text place = not_of_set_at t b (as_word delete_word) place (place + 1)
 by_set_byte SetByte.OfSet m t a e x b text place = character_at m e x a b text place
 by_set_byte SetByte.Outside m t a e x b text place = refused Refusal.AnotherArea place
 

@@ -1,6 +1,6 @@
 -- No rule of the paper: for contracts of this layer.
 -- The bytes that stand in a number, the first in its lowest place.
-use Rattle.std.specs.Prelude.{ℕ, zero, suc, ◌+◌, ◌*◌, ◌/◌, ◌%◌, ◌^◌, ◌<◌, ◌≤◌, List, [], ◌∷◌}
+use Rattle.std.specs.Prelude.{ℕ, zero, suc, ◌+◌, ◌*◌, ◌/◌, ◌%◌, ◌^◌, ◌<◌, ◌≤◌, List, [], ◌∷◌, length}
 use Rattle.items.specs.declared.piece.Piece.{Piece}
 
 abbrev pub bytes_of : ℕ → ℕ → List ℕ
@@ -12,6 +12,10 @@ bytes_in p = bytes_of p.count p.bytes
 
 abbrev pub one_byte : ℕ → Piece
 one_byte b = record { count = 1; bytes = b }
+
+-- a room with the bytes of a piece; in one as long as the piece those are its bytes
+abbrev pub filled : Piece → List ℕ → List ℕ
+filled p room = bytes_of (length room) p.bytes
 
 -- a byte in front, in a number of eight places
 abbrev pub front : ℕ → Piece → Piece

@@ -12,7 +12,7 @@ use Rattle.paper.specs.declared.Within.{Within}
 use Rattle.paper.specs.declared.Standing.{Standing}
 use Rattle.paper.specs.declared.Reader.{Reader}
 use Rattle.charsets.specs.Sizes.{size_of_set}
-use Rattle.escapes.specs.Effects.{cell_of_gl, cell_of_gr, cell_of_single}
+use Rattle.escapes.specs.Effects.{cell_of_gl, cell_of_gr, cell_of_single, cell_number}
 use Rattle.escapes.specs.declared.effect.Effect.{Effect}
 
 -- ---- what a cell has
@@ -36,7 +36,7 @@ element_of cells b = nat_lt b bit8 gives left_in cells or right_in cells
 
 -- a single shift is spent, and the cell has its value
 abbrev pub changed : Effect → List ℕ → List ℕ
-changed x cells = slice_set (slice_set cells cell_of_single 0) (x.cell.0 % 16) x.value
+changed x cells = slice_set (slice_set cells cell_of_single 0) (cell_number x.cell % 16) x.value
 
 -- ---- the cells of a reader
 

@@ -4,28 +4,16 @@ ghost use Rattle.items.specs.Letters.{is_letter};
 
 use crate::state::{CELLS, NONE, element_of, single, size_in};
 use charsets::{DELETE, SPACE, is_one};
-use codetable::{BIT_8, form_has};
+use codetable::{BIT_8, between, form_has};
 use paper::Form;
 
 // Whether a letter stands here.
-#[tactic(auto, using(paper::proofs::Choices::above_bounds), unfolding(crate::specs::Letters::is_letter))]
+#[tactic(auto, using(paper::proofs::Tests::tests), unfolding(crate::specs::Letters::is_letter))]
 pub fn is_letter(form: Form, state: &[u8; CELLS], byte: u8) -> bool
     ensures { result ≡ is_letter form state.now byte }
 {
-    let position = byte % BIT_8;
-    if position <= SPACE {
-        return false;
-    }
-    if position == DELETE {
-        return false;
-    }
-    let taken = single(state);
-    if taken.0 != NONE {
-        return false;
-    }
-    if form_has(form, byte) {
-        is_one(size_in(state, element_of(state, byte)))
-    } else {
-        false
-    }
+    between(SPACE + 1, DELETE - 1, byte % BIT_8)
+        && single(state).0 == NONE
+        && form_has(form, byte)
+        && is_one(size_in(state, element_of(state, byte)))
 }

@@ -8,5 +8,6 @@ mod character;
 pub mod item;
 pub mod letter;
 pub mod piece;
+mod reading;
 mod sequence;
 pub mod state;

@@ -6,12 +6,13 @@ ghost use Rattle.items.specs.States.{single_in, left_in, right_in, size_in, elem
 
 use charsets::{OF_94, OF_96, Size};
 use codetable::BIT_8;
-use escapes::effect::{Effect, ElementNumber, G0, G1, GL, GR, SINGLE};
+use escapes::effect::{Cell, Effect, ElementNumber, G0, G1};
 
 // How many cells there are: more than are used, so that the remainder of any number is one.
 pub const CELLS: usize = 16;
 
-// No single shift.
+// No single shift. It is the value of a cell, a byte like the others (docs/SPEED.md, "An item says what it changes"); an `Option` of the
+// element would be packed and taken apart ("A choice that one function returns and its caller looks at again").
 pub const NONE: u8 = 0;
 
 // G0 of 94 type, G1 to G3 of 96 type; GL shows G0, GR shows G1.
@@ -26,19 +27,19 @@ pub fn starting() -> [u8; CELLS]
 pub fn single(state: &[u8; CELLS]) -> ElementNumber
     ensures { result.0 ≡ single_in state.now }
 {
-    ElementNumber(state[SINGLE as usize])
+    ElementNumber(state[Cell::SINGLE.0 as usize])
 }
 
 pub fn left(state: &[u8; CELLS]) -> ElementNumber
     ensures { result.0 ≡ left_in state.now }
 {
-    ElementNumber(state[GL as usize])
+    ElementNumber(state[Cell::GL.0 as usize])
 }
 
 pub fn right(state: &[u8; CELLS]) -> ElementNumber
     ensures { result.0 ≡ right_in state.now }
 {
-    ElementNumber(state[GR as usize])
+    ElementNumber(state[Cell::GR.0 as usize])
 }
 
 // The size of an element's set.
@@ -64,7 +65,6 @@ pub fn element_of(state: &[u8; CELLS], byte: u8) -> ElementNumber
 pub fn change(state: &mut [u8; CELLS], effect: Effect)
     ensures { state.new ≡ changed effect state.old }
 {
-    let cell = effect.cell;
-    state[SINGLE as usize] = NONE;
-    state[cell.0 as usize % CELLS] = effect.value;
+    state[Cell::SINGLE.0 as usize] = NONE;
+    state[effect.cell.0 as usize % CELLS] = effect.value;
 }

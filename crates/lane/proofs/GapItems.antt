@@ -18,6 +18,7 @@ use Rattle.paper.specs.declared.Reader.{Reader}
 use Rattle.paper.proofs.Choices.{impossible}
 use Rattle.charsets.specs.Sizes.{kind_of, is_of94}
 use Rattle.escapes.specs.Effects.{nowhere, plain, shows_in_gl}
+use Rattle.escapes.specs.declared.effect.Word.{Word}
 use Rattle.items.specs.States.{single_in, left_in, size_in, changed, none, cells_of, Stands}
 use Rattle.items.specs.Items.{shifts, item_at}
 use Rattle.items.proofs.ItemsOfBytes.{shift_out_item, shift_in_item, space_item_lem}
@@ -25,6 +26,7 @@ use Rattle.items.proofs.StatesKept.{Same, on_ground_lem}
 use Rattle.lane.specs.Gaps.{has_gaps, gap_ahead}
 use Rattle.lane.proofs.EachPasses.{both_true}
 use Rattle.lane.proofs.LaneItems.{space_item}
+use Rattle.escapes.specs.Effects.{as_word}
 
 -- ---- what the tests mean
 
@@ -52,7 +54,7 @@ abbrev pub after_in : List ℕ → List ℕ
 after_in cells = changed (shows_in_gl (element_number Element.G0)) cells
 
 abbrev pub after_space : List ℕ → List ℕ
-after_space cells = changed (plain space_word 0) (after_in cells)
+after_space cells = changed (plain (as_word space_word) 0) (after_in cells)
 
 abbrev pub after_out : List ℕ → List ℕ
 after_out cells = changed (shows_in_gl (element_number Element.G1)) (after_space cells)

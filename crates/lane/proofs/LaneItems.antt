@@ -17,6 +17,7 @@ use Rattle.paper.specs.declared.Count.{Count}
 use Rattle.paper.proofs.Choices.{gives_by}
 use Rattle.charsets.specs.Sizes.{size_number, kind_of, is_one}
 use Rattle.escapes.specs.Effects.{plain}
+use Rattle.escapes.specs.declared.effect.Word.{Word}
 use Rattle.items.specs.States.{single_in, left_in, right_in, size_in, element_of}
 use Rattle.items.specs.Items.{Item, character_of, item_at}
 use Rattle.items.proofs.ItemsOfBytes.{gl_has, eight_has, position_item, high_item, control_item_lem, space_item_lem}
@@ -24,6 +25,7 @@ use Rattle.lane.specs.declared.Lane.{Lane}
 use Rattle.lane.specs.Passing.{passes}
 use Rattle.lane.specs.Lanes.{first_position, last_position, last_plain, lane_with, lane_of, has_space, word_in}
 use Rattle.lane.proofs.EachPasses.{passes_means}
+use Rattle.escapes.specs.Effects.{as_word}
 
 pub less_or_not : (n m : ℕ) → (n < m) ⊎ (m ≤ n)
 less_or_not n m = by (ltb n m) refl
@@ -71,10 +73,10 @@ word_of_position b h =
 -- ---- the item
 
 abbrev pub control_item : ℕ → ℕ → Item
-control_item b next = record { effect = plain control_word b; bytes = b ∷ []; place = next }
+control_item b next = record { effect = plain (as_word control_word) b; bytes = b ∷ []; place = next }
 
 abbrev pub space_item : ℕ → Item
-space_item next = record { effect = plain space_word 0; bytes = space ∷ []; place = next }
+space_item next = record { effect = plain (as_word space_word) 0; bytes = space ∷ []; place = next }
 
 -- a character of the set that the byte's area shows
 pub record IsCharacter (m : Form) (cells text : List ℕ) (place : ℕ) : Type 0 where

@@ -1,7 +1,4 @@
-pub mod CutOnce
-pub mod DigitsOfATenth
 pub mod FilledFromHere
-pub mod LineGrows
-pub mod LinesAreShort
+pub mod NumbersOpened
 pub mod RowsOfATest
 pub mod TextOverABuffer

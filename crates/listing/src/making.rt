@@ -1,141 +1,132 @@
-// A line in the making, and the fields of every kind put after it.
+// A line in the making, and the fields of every kind put after it. Not by `write!`: tried, and what `begin` ensures stayed open, since
+// where `write!` gives an error its contract says nothing of what is written.
 ghost use Rattle.std.specs.Prelude.{◌≡◌, ◌∷◌, [], ◌++◌, ◌+◌, ◌≤◌, ◌<◌, length};
-ghost use Rattle.std.proofs.lemmas.List.Edits.{sets};
+ghost use Rattle.paper.specs.LentBuffers.{over};
 ghost use Rattle.paper.specs.Sets.{space};
-ghost use Rattle.paper.specs.Lister.{digit, hex};
-ghost use Rattle.listing.specs.Making.{cut, written};
-ghost use Rattle.listing.specs.Numerals.{numeral};
+ghost use Rattle.paper.specs.Lister.{digit, hex, line_end, line_fits, line_written, position_fields, sequence_fields};
+ghost use Rattle.listing.specs.Numerals.{fields, numeral};
 
-use charsets::SPACE;
+use arrayvec::ArrayString;
+use paper::{Intermediates, PositionBytes, Refusal, Refused};
+use std::marker::Model;
 
-// Each line has its end.
-pub(crate) const LINE_END: u8 = 0x0A;
-
-// A line has 46 bytes at most.
+// The longest line has 46 bytes.
 const ROOM: usize = 64;
 
-// The digits 0 to 9, and A to F after them.
-const FIRST_DIGIT: u8 = 0x30;
-
-const FIRST_LETTER: u8 = 0x41;
-
-// The numbers of digits, decimal and hex.
-const TEN: usize = 10;
-
-const SIXTEEN: usize = 16;
-
-// A line in the making: its first bytes, as many as its length. What there is no room for is left out.
-#[derive(Clone, Copy)]
+// A line in the making: its bytes so far.
+#[derive(Drop)]
 pub(crate) struct Line {
-    bytes: [u8; ROOM],
-    length: usize,
+    text: ArrayString<ROOM>,
 }
 
-// A line that has no bytes yet.
-#[tactic(auto, unfolding(crate::specs::Making::written))]
-pub(crate) fn empty() -> Line
-    ensures { written result ≡ [] }
-{
-    Line {
-        bytes: [0u8; ROOM],
-        length: 0,
-    }
+impl Model for Line {
+    ghost use Rattle.std.specs.Prelude.{ℕ, List};
+
+    ghost Value = { List ℕ };
+
+    ghost view = { λ l. l.text.bytes };
 }
 
-// How many bytes a line has: a length beyond the room is that of a full line.
-#[tactic(auto, unfolding(crate::specs::Making::cut, crate::specs::Making::written))]
-pub(crate) fn length_of(line: Line) -> usize
-    ensures { result ≡ length (written line) }
-{
-    if line.length < ROOM {
-        line.length
-    } else {
-        ROOM
-    }
-}
-
-// A line and one byte more.
-#[tactic(auto, unfolding(crate::specs::Making::written))]
-pub(crate) fn put_byte(line: Line, byte: u8) -> Line
-    ensures { written result ≡ cut (written line ++ (byte ∷ [])) }
-{
-    let mut longer = line;
-    let at = longer.length;
-    if at < ROOM {
-        longer.bytes[at] = byte;
-        longer.length = at + 1;
-    }
-    longer
-}
-
-// A line and a text after it.
-pub(crate) fn put_text(line: Line, text: &[u8]) -> Line
-    ensures { written result ≡ cut (written line ++ text.now) }
-{
-    let mut longer = line;
-    let mut at = 0;
-    while at < text.len() {
-        longer = put_byte(longer, text[at]);
-        at += 1;
-    }
-    longer
-}
-
-// The digit of a number below sixteen.
+// The hex digit of a number below sixteen.
 #[tactic(auto, using(paper::proofs::Tests::tests))]
-fn digit(number: usize) -> u8
+fn digit(number: u8) -> char
     requires { number < 16 }
     ensures { result ≡ digit number }
 {
-    if number < TEN {
-        FIRST_DIGIT + number as u8
+    char::from(if number < 10 {
+        b'0' + number
     } else {
-        FIRST_LETTER + (number - TEN) as u8
+        b'A' + (number - 10)
+    })
+}
+
+impl Line {
+    // A line that has a word.
+    pub(crate) fn new(word: &str) -> Line
+        requires { length word.now ≤ ROOM }
+        ensures { result ≡ word.now }
+    {
+        let mut text = ArrayString::new();
+        text.push_str(word);
+        Line { text }
     }
-}
 
-// A line and a number after it, in decimal, with no zero in front: the digits before the last one are those of a tenth.
-pub(crate) fn put_decimal(line: Line, number: usize) -> Line
-    ensures { written result ≡ cut (written line ++ numeral number) }
-{
-    if number < TEN {
-        return put_byte(line, digit(number));
+    // One field more, parted from the last by a space: a word, a number in decimal, or a byte as two hex digits.
+    pub(crate) fn field(mut self, field: &str) -> Line
+        requires { length self + 1 + length field.now ≤ ROOM }
+        ensures { result ≡ self ++ (space ∷ field.now) }
+    {
+        self.text.push(' ');
+        self.text.push_str(field);
+        self
     }
-    let tenth = put_decimal(line, number / TEN);
-    put_byte(tenth, digit(number % TEN))
-}
 
-// A line and one field more, parted from the last by a space: a word, a number in decimal, or a byte as two hex digits.
-pub(crate) fn put_field(line: Line, field: &[u8]) -> Line
-    ensures { written result ≡ cut (written line ++ (space ∷ field.now)) }
-{
-    put_text(put_byte(line, SPACE), field)
-}
+    #[tactic(auto, using(crate::proofs::NumbersOpened::numeral_lem))]
+    pub(crate) fn number(self, number: usize) -> Line
+        requires { length self + 21 ≤ ROOM }
+        ensures text { result ≡ self ++ (space ∷ numeral number) }
+        ensures size { length result ≤ length self + 21 }
+    {
+        self.field(itoa::Buffer::new().format(number))
+    }
 
-pub(crate) fn put_number(line: Line, number: usize) -> Line
-    ensures { written result ≡ cut (written line ++ (space ∷ numeral number)) }
-{
-    put_decimal(put_byte(line, SPACE), number)
-}
+    pub(crate) fn hex(mut self, byte: u8) -> Line
+        requires { length self + 3 ≤ ROOM }
+        ensures { result ≡ self ++ (space ∷ hex byte) }
+    {
+        self.text.push(' ');
+        self.text.push(digit(byte / 16));
+        self.text.push(digit(byte % 16));
+        self
+    }
 
-pub(crate) fn put_hex(line: Line, byte: u8) -> Line
-    ensures { written result ≡ cut (written line ++ (space ∷ hex byte)) }
-{
-    let number = byte as usize;
-    let first = put_byte(put_byte(line, SPACE), digit(number / SIXTEEN));
-    put_byte(first, digit(number % SIXTEEN))
-}
+    // A character's position bytes.
+    pub(crate) fn position(self, position: PositionBytes) -> Line
+        requires { length self + 9 ≤ ROOM }
+        ensures { result ≡ self ++ fields (position_fields position) }
+    {
+        match position {
+            PositionBytes::One(a) => self.hex(a),
+            PositionBytes::Two(a, b) => self.hex(a).hex(b),
+            PositionBytes::Three(a, b, c) => self.hex(a).hex(b).hex(c),
+        }
+    }
 
-// A line into a lent buffer, from an index on.
-pub(crate) fn copy(line: Line, buffer: &mut [u8], at: usize)
-    requires { at + length (written line) ≤ length buffer.old }
-    ensures { buffer.new ≡ sets buffer.old at (written line) }
-{
-    let bytes = line.bytes;
-    let count = length_of(line);
-    let mut index = 0;
-    while index < count {
-        buffer[at + index] = bytes[index];
-        index += 1;
+    // The bytes after ESC.
+    pub(crate) fn sequence(self, intermediates: Intermediates, last: u8) -> Line
+        requires { length self + 9 ≤ ROOM }
+        ensures { result ≡ self ++ fields (sequence_fields intermediates last) }
+    {
+        match intermediates {
+            Intermediates::None => self.hex(last),
+            Intermediates::One(i) => self.hex(i).hex(last),
+            Intermediates::Two(i, j) => self.hex(i).hex(j).hex(last),
+        }
+    }
+
+    // Each line has its end.
+    pub(crate) fn end(mut self) -> Line
+        requires { length self < ROOM }
+        ensures { result ≡ self ++ (line_end ∷ []) }
+    {
+        self.text.push('\n');
+        self
+    }
+
+    // Into a lent buffer, where the whole line fits: its length.
+    pub(crate) fn put_into(&self, buffer: &mut [u8]) -> Result<usize, Refused>
+        ensures value { result ≡ line_fits (length buffer.old) self.now }
+        ensures buffer_after { buffer.new ≡ over (line_written (length buffer.old) self.now) buffer.old }
+    {
+        let count = self.text.len();
+        if count <= buffer.len() {
+            buffer[..count].copy_from_slice(self.text.as_bytes());
+            Ok(count)
+        } else {
+            Err(Refused {
+                refusal: Refusal::BufferShort,
+                place: 0,
+            })
+        }
     }
 }

@@ -1,3 +1,2 @@
 pub mod NextMatch
 pub mod InBuffers
-pub mod Numbers

@@ -2,25 +2,13 @@
 -- byte more of it; or else what has begun again, which after an ESC can be its first two bytes, and otherwise its first.
 use Rattle.std.specs.Prelude.{ℕ, ◌+◌, ◌-◌, ltb, eqb, get_or, length}
 use Rattle.paper.specs.Choice.{◌gives◌or◌}
-use Rattle.paper.specs.CodeTable.{so, si, esc}
+use Rattle.paper.specs.CodeTable.{esc}
 use Rattle.paper.specs.Starting.{opening_start, opening}
 use Rattle.paper.specs.declared.Form.{Form}
-use Rattle.paper.specs.declared.Form.TheVariants.{Seven, Eight}
 
 -- the opening's byte at k
 abbrev pub opening_at : Form → ℕ → ℕ
 opening_at m k = get_or (opening m) k 0
-
--- its bytes after those with which both forms begin
-abbrev pub common : ℕ
-common = 18
-
-abbrev pub end_at : Form → ℕ → ℕ
-end_at Seven k = eqb k common gives so or si
-end_at Eight k =
-    eqb k common gives si or
-    eqb k (common + 1) gives esc or
-    0x7E
 
 -- the byte begins an opening
 unfoldable pub begun : ℕ → ℕ

@@ -6,7 +6,7 @@ use mathlib.Core.Path.{◌≡◌, refl}
 use mathlib.Core.List.{List, [], ◌∷◌, ◌++◌, map}
 use lib.ListN.{length}
 use Rattle.paper.specs.Choice.{between}
-use Rattle.paper.specs.Words.{Form, Seven, Eight, Count, Set, PositionBytes, Answer, EndWord, Numbered}
+use Rattle.paper.specs.Words.{Form, Seven, Eight, Count, Set, PositionBytes, Answer, EndWord}
 use Rattle.paper.specs.CodeTable.{byte_at, column_area, form_has_column, position_of}
 use Rattle.paper.specs.Sets.{set_byte}
 use Rattle.paper.specs.Starting.{opening}
@@ -20,16 +20,17 @@ use Rattle.paper.specs.Results.{word_of, values_of, Returned, returned_number, r
 use Rattle.paper.specs.Results.{space_word, designate_word, shift_word, refused_word, skipped_word, instep_word}
 use Rattle.paper.specs.Conversions.{output, conversion, wrote_by, buffer_after}
 use Rattle.paper.specs.LatinGreek.{greek_number, number_in, unicode_of}
+use Rattle.std.specs.Prelude.{Option, None}
 
 -- an answer by offset, number of its word and values
 abbrev pub shown : Placed → List ℕ
 shown a = a.offset ∷ word_of a.answer ∷ values_of a.answer
 
 -- the number of a character: its refusal, 0 where it has none, and its value
-abbrev pub number_of_character : Set → PositionBytes → Numbered
+abbrev pub number_of_character : Set → PositionBytes → Option ℕ
 number_of_character x (PositionBytes.One a) = unicode_of x Count.One (position_of a).column (position_of a).row
-number_of_character x (PositionBytes.Two a b) = Numbered.NoNumber
-number_of_character x (PositionBytes.Three a b c) = Numbered.NoNumber
+number_of_character x (PositionBytes.Two a b) = None
+number_of_character x (PositionBytes.Three a b c) = None
 
 abbrev pub shown_number : Returned → List ℕ
 shown_number n = n.refusal ∷ n.values

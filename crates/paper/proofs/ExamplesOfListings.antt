@@ -17,6 +17,7 @@ use Rattle.paper.specs.Characters.{c0_byte, byte_in, character}
 use Rattle.paper.specs.Answering.{means, answer_in_step, answer_lost, answer_to}
 use Rattle.paper.specs.Texts.{reader_after}
 use Rattle.paper.specs.Lister.{ascii, listing, Filled, filled}
+use Rattle.std.specs.Prelude.{Ok, Err}
 
 pub record Example : Type 0 where
   pub form : Form
@@ -107,7 +108,7 @@ example = 0x41 ∷ 0x0E ∷ 0x41 ∷ 0x1B ∷ 0x28 ∷ 0x0E ∷ 0x41 ∷ []
 
 abbrev more : ℕ → List String → Filled
 more n lines = record {
-  answer = Listed.More (length (printed lines)) n (reader_after (started Eight) (take n example));
+  answer = Ok (Listed.More (length (printed lines)) n (reader_after (started Eight) (take n example)));
   bytes = printed lines;
 }
 
@@ -133,14 +134,14 @@ example_ends = refl
 
 abbrev fills_where : List ℕ → List Filled
 fills_where listed =
-    record { answer = Listed.Refused Refusal.BufferShort; bytes = [] } ∷
-    record { answer = Listed.Refused Refusal.BufferShort; bytes = [] } ∷
+    record { answer = Err Refusal.BufferShort; bytes = [] } ∷
+    record { answer = Err Refusal.BufferShort; bytes = [] } ∷
     more 1 ("0 char G0 94 42 41" ∷ []) ∷
     more 1 ("0 char G0 94 42 41" ∷ []) ∷
     more 2 ("0 char G0 94 42 41" ∷ "1 shift LS1" ∷ []) ∷
     more 7 ("0 char G0 94 42 41" ∷ "1 shift LS1" ∷ "2 char G1 96 46 41" ∷ "5 refused 2" ∷ []) ∷
-    record { answer = Listed.Done 73; bytes = listed } ∷
-    record { answer = Listed.Done 73; bytes = listed } ∷
+    record { answer = Ok (Listed.Done 73); bytes = listed } ∷
+    record { answer = Ok (Listed.Done 73); bytes = listed } ∷
     []
 
 fills : map (λ room. filled room 0 (started Eight) example) (0 ∷ 18 ∷ 19 ∷ 30 ∷ 31 ∷ 72 ∷ 73 ∷ 100 ∷ []) ≡
@@ -152,14 +153,14 @@ fills = refl
 
 pub fills_hold :
     map (λ room. filled room 0 (started Eight) example) (0 ∷ 18 ∷ 19 ∷ 30 ∷ 31 ∷ 72 ∷ 73 ∷ 100 ∷ []) ≡
-    record { answer = Listed.Refused Refusal.BufferShort; bytes = [] } ∷
-    record { answer = Listed.Refused Refusal.BufferShort; bytes = [] } ∷
+    record { answer = Err Refusal.BufferShort; bytes = [] } ∷
+    record { answer = Err Refusal.BufferShort; bytes = [] } ∷
     more 1 ("0 char G0 94 42 41" ∷ []) ∷
     more 1 ("0 char G0 94 42 41" ∷ []) ∷
     more 2 ("0 char G0 94 42 41" ∷ "1 shift LS1" ∷ []) ∷
     more 7 ("0 char G0 94 42 41" ∷ "1 shift LS1" ∷ "2 char G1 96 46 41" ∷ "5 refused 2" ∷ []) ∷
-    record { answer = Listed.Done 73; bytes = listing Eight example } ∷
-    record { answer = Listed.Done 73; bytes = listing Eight example } ∷
+    record { answer = Ok (Listed.Done 73); bytes = listing Eight example } ∷
+    record { answer = Ok (Listed.Done 73); bytes = listing Eight example } ∷
     []
 fills_hold = fills ∙ ap fills_where (sym example_listed)
 
@@ -167,7 +168,7 @@ fills_hold = fills ∙ ap fills_where (sym example_listed)
 abbrev goes_on_to : Reader → Filled
 goes_on_to r =
     let lines = printed ("1 shift LS1" ∷ "2 char G1 96 46 41" ∷ "5 refused 2" ∷ []) in
-    record { answer = Listed.More (length lines) 7 r; bytes = lines }
+    record { answer = Ok (Listed.More (length lines) 7 r); bytes = lines }
 
 goes_on : filled 53 1 (started Eight) example ≡ goes_on_to example_end
 unfolding between column_area form_has_column position_of set_byte sequence_byte c1_function shift_or_other meaning_of_none designation
@@ -177,8 +178,8 @@ goes_on = refl
 
 past_the_end_lem :
     (filled 11 7 (reader_after (started Eight) example) example ≡
-    record { answer = Listed.Done 11; bytes = printed ("end 7 lost" ∷ []) }) ×
-    (filled 100 8 (started Eight) example ≡ record { answer = Listed.Done 12; bytes = printed ("end 7 whole" ∷ []) })
+    record { answer = Ok (Listed.Done 11); bytes = printed ("end 7 lost" ∷ []) }) ×
+    (filled 100 8 (started Eight) example ≡ record { answer = Ok (Listed.Done 12); bytes = printed ("end 7 whole" ∷ []) })
 unfolding between column_area form_has_column position_of set_byte sequence_byte c1_function shift_or_other meaning_of_none designation
     short_designation by_intermediate meaning_of_one several_bytes meaning_of_two matched_with one_more c0_byte byte_in character means
     answer_in_step answer_lost answer_to filled
@@ -188,6 +189,6 @@ pub fills_go_on :
     (filled 53 1 (started Eight) example ≡
     more 7 ("1 shift LS1" ∷ "2 char G1 96 46 41" ∷ "5 refused 2" ∷ [])) ×
     (filled 11 7 (reader_after (started Eight) example) example ≡
-    record { answer = Listed.Done 11; bytes = printed ("end 7 lost" ∷ []) }) ×
-    (filled 100 8 (started Eight) example ≡ record { answer = Listed.Done 12; bytes = printed ("end 7 whole" ∷ []) })
+    record { answer = Ok (Listed.Done 11); bytes = printed ("end 7 lost" ∷ []) }) ×
+    (filled 100 8 (started Eight) example ≡ record { answer = Ok (Listed.Done 12); bytes = printed ("end 7 whole" ∷ []) })
 fills_go_on = (goes_on ∙ ap goes_on_to (sym example_ends), past_the_end_lem.0, past_the_end_lem.1)

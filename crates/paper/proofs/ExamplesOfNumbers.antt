@@ -5,14 +5,15 @@ use mathlib.Core.List.{List, [], ◌∷◌, ◌++◌, map}
 use Rattle.paper.specs.Choice.{between, numbers}
 use Rattle.paper.specs.Words.{ControlElement, G0, G1, G2, G3, Of94, Of96, Count, Set, Intermediates, LS0, LS1}
 use Rattle.paper.specs.Words.{LS2, LS3, LS1R, LS2R, LS3R, SS2, SS3, PositionBytes, Refusal, Answer, EndWord}
-use Rattle.paper.specs.Words.{Reader, First, Surveyed, Listed, Converted}
+use Rattle.paper.specs.Words.{Reader, Listed}
 use Rattle.paper.specs.CodeTable.{byte_at, position_of}
 use Rattle.paper.specs.Sets.{set_byte}
 use Rattle.paper.specs.Starting.{latin, greek}
-use Rattle.paper.specs.Refusals.{number_of}
+use Rattle.paper.specs.Refusals.{number_of, refusal_at}
 use Rattle.paper.specs.LatinGreek.{greek_number, number_in, unicode_of, locate}
 use Rattle.paper.specs.Results.{shift_number, word_of, values_of, end_of, returned_conversion, Returned}
 use Rattle.paper.specs.Results.{returned_number, returned_position, returned_survey, returned_listing}
+use Rattle.std.specs.Prelude.{Some, Ok, Err}
 
 -- every answer, with values that differ wherever they can: its word, then its values
 abbrev said : Answer → List ℕ
@@ -64,7 +65,7 @@ pub shifts_in_order : map shift_number (LS0 ∷ LS1 ∷ LS2 ∷ LS3 ∷ LS1R ∷
 shifts_in_order = refl
 
 pub conversions_return : (n : ℕ) (r : Refusal) (at : ℕ) →
-    map returned_conversion (Converted.Done n ∷ Converted.Refused r at ∷ []) ≡
+    map returned_conversion (Ok n ∷ Err (refusal_at r at) ∷ []) ≡
     record { refusal = 0; values = 0 ∷ n ∷ [] } ∷ record { refusal = number_of r; values = at ∷ 0 ∷ [] } ∷ []
 conversions_return n r at = refl
 
@@ -154,7 +155,7 @@ back_returns = refl
 -- what a survey and a listing return
 pub calls_return : (r : Reader) →
     (map returned_survey
-    (Surveyed.Has (record {
+    (Ok (record {
       characters = 1;
       spaces = 2;
       deletes = 3;
@@ -164,13 +165,13 @@ pub calls_return : (r : Reader) →
       others = 7;
       refusals = 8;
       insteps = 9;
-      first = First Refusal.NotOfSet 10;
+      first = Some (refusal_at Refusal.NotOfSet 10);
       end = EndWord.Lost;
     }) ∷
-    Surveyed.Refused Refusal.TooLong ∷ []) ≡
+    Err Refusal.TooLong ∷ []) ≡
     record { refusal = 0; values = 1 ∷ 2 ∷ 3 ∷ 4 ∷ 5 ∷ 6 ∷ 7 ∷ 8 ∷ 9 ∷ 5 ∷ 10 ∷ 2 ∷ [] } ∷
     record { refusal = 8; values = [] } ∷ []) ×
-    (map returned_listing (Listed.Done 7 ∷ Listed.More 7 8 r ∷ Listed.Refused Refusal.BufferShort ∷ []) ≡
+    (map returned_listing (Ok (Listed.Done 7) ∷ Ok (Listed.More 7 8 r) ∷ Err Refusal.BufferShort ∷ []) ≡
     record { refusal = 0; values = 7 ∷ [] } ∷ record { refusal = 0; values = 7 ∷ 8 ∷ [] } ∷
     record { refusal = 9; values = 0 ∷ [] } ∷ [])
 calls_return r = (refl, refl)

@@ -4,10 +4,11 @@ use mathlib.Core.Path.{◌≡◌, refl}
 use mathlib.Core.Bool.{Bool, true, false}
 use mathlib.Core.List.{List, [], ◌∷◌}
 use Rattle.paper.specs.Choice.{◌gives◌or◌, between, numbers}
-use Rattle.paper.specs.Words.{Kind, Of94, Of96, Set, SetByte, OfSpace, OfDelete, OfSet, Outside, Numbered}
+use Rattle.paper.specs.Words.{Kind, Of94, Of96, Set, SetByte, OfSpace, OfDelete, OfSet, Outside}
 use Rattle.paper.specs.Sets.{size_of, set_byte}
 use Rattle.paper.specs.Starting.{latin, greek}
 use Rattle.paper.specs.LatinGreek.{greek_number, number_in}
+use Rattle.std.specs.Prelude.{Option, Some, None}
 
 abbrev how_many : (ℕ → Bool) → List ℕ → ℕ
 how_many f [] = 0
@@ -27,9 +28,9 @@ unfolding set_byte between
 positions_of_kind Of94 = refl
 positions_of_kind Of96 = refl
 
-abbrev is_filled : Numbered → Bool
-is_filled (Numbered.Number u) = true
-is_filled Numbered.NoNumber = false
+abbrev is_filled : Option ℕ → Bool
+is_filled (Some u) = true
+is_filled None = false
 
 abbrev pub filled : Set → ℕ
 filled x = how_many (λ b. is_filled (number_in x b)) all_bytes

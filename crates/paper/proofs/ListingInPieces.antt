@@ -16,6 +16,7 @@ use Rattle.paper.specs.Refusals.{longest_text}
 use Rattle.paper.specs.Answering.{answer_to, end_of_text}
 use Rattle.paper.proofs.Choices.{impossible}
 use Rattle.paper.specs.Lister.{line_of, end_line, lines_from, listing, Filled, stops, after, fill_from, filled}
+use Rattle.std.specs.Prelude.{Result, Ok, Err}
 
 -- the bytes that are left, parted where the next call goes on
 pub record Parted (n at : ℕ) (r : Reader) (l bytes : List ℕ) (next : ℕ) (reader : Reader) : Type 0 where
@@ -27,12 +28,12 @@ pub record Parted (n at : ℕ) (r : Reader) (l bytes : List ℕ) (next : ℕ) (r
   pub moved : front ≡ [] → bytes ≡ []
 
 -- what an answer says of the bytes that are written, where so many were written before and there was room for so many more
-abbrev pub Tells : ℕ → ℕ → ℕ → ℕ → Reader → List ℕ → List ℕ → Listed → Type 0
-Tells n written room at r l bytes (Listed.Done k) =
+abbrev pub Tells : ℕ → ℕ → ℕ → ℕ → Reader → List ℕ → List ℕ → Result Listed Refusal → Type 0
+Tells n written room at r l bytes (Ok (Listed.Done k)) =
     (k ≡ written + length bytes) × (length bytes ≤ room) × (bytes ≡ lines_from n at r l)
-Tells n written room at r l bytes (Listed.More k next reader) =
+Tells n written room at r l bytes (Ok (Listed.More k next reader)) =
     (k ≡ written + length bytes) × (length bytes ≤ room) × Parted n at r l bytes next reader × (1 ≤ k)
-Tells n written room at r l bytes (Listed.Refused e) = (written ≡ 0) × (bytes ≡ []) × (e ≡ Refusal.BufferShort)
+Tells n written room at r l bytes (Err e) = (written ≡ 0) × (bytes ≡ []) × (e ≡ Refusal.BufferShort)
 
 module _ (n room at : ℕ) (r : Reader) (l : List ℕ) where
   stopped : (written : ℕ) → Tells n written room at r l [] (stops written at r)
@@ -46,7 +47,7 @@ module _ (n room at : ℕ) (r : Reader) (l : List ℕ) where
 
 last_line_lem : (t : Bool) (n written room at : ℕ) (r : Reader) → leb (length (end_line n (end_of_text r))) room ≡ t →
     let f : Filled =
-    t gives record { answer = Listed.Done (written + length (end_line n (end_of_text r))); bytes = end_line n (end_of_text r) } or
+    t gives record { answer = Ok (Listed.Done (written + length (end_line n (end_of_text r)))); bytes = end_line n (end_of_text r) } or
     record { answer = stops written at r; bytes = [] } in
     Tells n written room at r [] f.bytes f.answer
 last_line_lem true n written room at r e = (refl, leb-true (length (end_line n (end_of_text r))) room e, refl)
@@ -67,13 +68,13 @@ one_line n written room at r b bs f h t = by f.answer t
     line : List ℕ
     line = line_of at (answer_to r b).answer
 
-    by : (a : Listed) →
+    by : (a : Result Listed Refusal) →
         Tells n (written + length line) (room - length line) (suc at) (answer_to r b).reader bs f.bytes a →
         Tells n written room at r (b ∷ bs) (line ++ f.bytes) a
-    by (Listed.Done k) t =
+    by (Ok (Listed.Done k)) t =
         let c = t.0 in let m = t.1 in let s = length-append line f.bytes in
         (omega arith, omega arith, ap (λ (x : List ℕ). line ++ x) t.2)
-    by (Listed.More k next reader) t =
+    by (Ok (Listed.More k next reader)) t =
         let c = t.0 in let m = t.1 in let s = length-append line f.bytes in let p = t.2 in (
           omega arith,
           omega arith,
@@ -87,7 +88,7 @@ one_line n written room at r b bs f h t = by f.answer t
           },
           t.3,
         )
-    by (Listed.Refused e) t =
+    by (Err e) t =
         let z = t.0 in let q : line ≡ [] = nothing line (omega arith) in
         (omega arith, (λ i. q i ++ t.1 i), t.2)
 
@@ -126,18 +127,18 @@ module _ (room at : ℕ) (r : Reader) (l : List ℕ) (h : length l ≤ longest_t
       subst (λ (f : Filled). Tells (length l) 0 room at r (drop at l) f.bytes f.answer)
       (sym (filled_is room at r l h)) (fill_tells (drop at l) (length l) 0 room at r)
 
-  told : (a : Listed) → call.answer ≡ a → Tells (length l) 0 room at r (drop at l) call.bytes a
+  told : (a : Result Listed Refusal) → call.answer ≡ a → Tells (length l) 0 room at r (drop at l) call.bytes a
   told a e = subst (Tells (length l) 0 room at r (drop at l) call.bytes) e call_tells
 
   -- it is done: its bytes are all that is listed from here on
-  pub listing_done : (k : ℕ) → call.answer ≡ Listed.Done k → call.bytes ≡ lines_from (length l) at r (drop at l)
-  listing_done k e = (told (Listed.Done k) e).2
+  pub listing_done : (k : ℕ) → call.answer ≡ Ok (Listed.Done k) → call.bytes ≡ lines_from (length l) at r (drop at l)
+  listing_done k e = (told (Ok (Listed.Done k)) e).2
 
   -- there is more: its bytes and what is listed from there on are what is listed from here on
-  pub listing_in_pieces : (k next : ℕ) (reader : Reader) → call.answer ≡ Listed.More k next reader →
+  pub listing_in_pieces : (k next : ℕ) (reader : Reader) → call.answer ≡ Ok (Listed.More k next reader) →
       call.bytes ++ lines_from (length l) next reader (drop next l) ≡ lines_from (length l) at r (drop at l)
   listing_in_pieces k next reader e =
-      let p = (told (Listed.More k next reader) e).2 in
+      let p = (told (Ok (Listed.More k next reader)) e).2 in
       let there : drop next l ≡ p.rest =
       ap (λ (i : ℕ). drop i l) p.place ∙
       (sym (drop-drop (length p.front) at l) ∙
@@ -145,10 +146,10 @@ module _ (room at : ℕ) (r : Reader) (l : List ℕ) (h : length l ≤ longest_t
       ap (λ (x : List ℕ). call.bytes ++ lines_from (length l) next reader x) there ∙ p.lines
 
   -- and it goes on at a later byte
-  pub listing_goes_on : (k next : ℕ) (reader : Reader) → call.answer ≡ Listed.More k next reader → at < next
-  listing_goes_on k next reader e = by (told (Listed.More k next reader) e)
+  pub listing_goes_on : (k next : ℕ) (reader : Reader) → call.answer ≡ Ok (Listed.More k next reader) → at < next
+  listing_goes_on k next reader e = by (told (Ok (Listed.More k next reader)) e)
     where
-      by : Tells (length l) 0 room at r (drop at l) call.bytes (Listed.More k next reader) → at < next
+      by : Tells (length l) 0 room at r (drop at l) call.bytes (Ok (Listed.More k next reader)) → at < next
       by t = front_of t.2.front refl
         where
           front_of : (f : List ℕ) → t.2.front ≡ f → at < next
@@ -159,21 +160,21 @@ module _ (room at : ℕ) (r : Reader) (l : List ℕ) (h : length l ≤ longest_t
 
 -- the whole of a text, from the start
 pub listing_of_a_text : (room : ℕ) (m : Form) (l : List ℕ) (k : ℕ) → length l ≤ longest_text →
-    (filled room 0 (started m) l).answer ≡ Listed.Done k → (filled room 0 (started m) l).bytes ≡ listing m l
+    (filled room 0 (started m) l).answer ≡ Ok (Listed.Done k) → (filled room 0 (started m) l).bytes ≡ listing m l
 unfolding listing
 listing_of_a_text room m l k h e = listing_done room 0 (started m) l h k e ∙ sym (rw (le-leb (length l) longest_text h))
 
 -- a call writes no more than its buffer has
 module _ (room at : ℕ) (r : Reader) (l : List ℕ) where
-  abbrev Fits : Listed → Type 0
-  Fits (Listed.Done k) = k ≤ room
-  Fits (Listed.More k next reader) = k ≤ room
-  Fits (Listed.Refused e) = Unit {0}
+  abbrev Fits : Result Listed Refusal → Type 0
+  Fits (Ok (Listed.Done k)) = k ≤ room
+  Fits (Ok (Listed.More k next reader)) = k ≤ room
+  Fits (Err e) = Unit {0}
 
-  tells_within : (bytes : List ℕ) (a : Listed) → Tells (length l) 0 room at r (drop at l) bytes a → Fits a
-  tells_within bytes (Listed.Done k) t = let c = t.0 in let m = t.1 in omega arith
-  tells_within bytes (Listed.More k next reader) t = let c = t.0 in let m = t.1 in omega arith
-  tells_within bytes (Listed.Refused e) t = tt
+  tells_within : (bytes : List ℕ) (a : Result Listed Refusal) → Tells (length l) 0 room at r (drop at l) bytes a → Fits a
+  tells_within bytes (Ok (Listed.Done k)) t = let c = t.0 in let m = t.1 in omega arith
+  tells_within bytes (Ok (Listed.More k next reader)) t = let c = t.0 in let m = t.1 in omega arith
+  tells_within bytes (Err e) t = tt
 
   pub call_within : Fits (filled room at r l).answer
   unfolding filled
@@ -183,6 +184,6 @@ module _ (room at : ℕ) (r : Reader) (l : List ℕ) where
     where
       by : (t : Bool) → Fits (fill_from (length l) 0 room at r (drop at l)).answer →
           Fits (◌gives◌or◌ {A = Filled} t (fill_from (length l) 0 room at r (drop at l))
-          (record { answer = Listed.Refused Refusal.TooLong; bytes = [] })).answer
+          (record { answer = Err Refusal.TooLong; bytes = [] })).answer
       by true w = w
       by false w = tt

@@ -7,20 +7,21 @@ use native.Mathlib.Omega.{arith}
 use borrow.Author.Tests.{le-leb, leb-true}
 use lib.Dec.{leb}
 use Rattle.paper.specs.Choice.{◌gives◌or◌}
-use Rattle.paper.specs.Words.{Column, Row, Made, Area, Form, Seven, Eight}
+use Rattle.paper.specs.Words.{Column, Row, Area, Form, Seven, Eight}
 use Rattle.paper.specs.CodeTable.{highest, byte_at, position_of, last_of_c0, last_of_gl, last_of_c1, column_area}
 use Rattle.paper.specs.CodeTable.{form_has_column}
 use Rattle.paper.proofs.Choices.{impossible}
+use Rattle.std.specs.Prelude.{Some, None}
 
-pub made_again : (b : ℕ) → b < 256 → byte_at (position_of b).column (position_of b).row ≡ Made.Byte b
+pub made_again : (b : ℕ) → b < 256 → byte_at (position_of b).column (position_of b).row ≡ Some b
 unfolding byte_at position_of
 made_again b h =
     let low : b / 16 ≤ highest = omega arith in
     let row : b % 16 ≤ highest = omega arith in
-    simp (le-leb _ _ low, le-leb _ _ row) (ap Made.Byte (omega arith))
+    simp (le-leb _ _ low, le-leb _ _ row) (ap Some (omega arith))
 
 apart : (c r b : ℕ) (s t : Bool) → leb c highest ≡ s → leb r highest ≡ t →
-    (s gives (t gives Made.Byte (16 * c + r) or Made.NoPosition) or Made.NoPosition) ≡ Made.Byte b →
+    (s gives (t gives Some (16 * c + r) or None) or None) ≡ Some b →
     (b / 16 ≡ c) × (b % 16 ≡ r)
 apart c r b true true p q e =
     let made : 16 * c + r ≡ b = cc in
@@ -29,7 +30,7 @@ apart c r b true true p q e =
 apart c r b true false p q e = impossible (cc)
 apart c r b false t p q e = impossible (cc)
 
-pub apart_again : (c : Column) (r : Row) (b : ℕ) → byte_at c r ≡ Made.Byte b → position_of b ≡ record { column = c; row = r }
+pub apart_again : (c : Column) (r : Row) (b : ℕ) → byte_at c r ≡ Some b → position_of b ≡ record { column = c; row = r }
 unfolding byte_at position_of
 apart_again c r b e =
     let h = apart c.0 r.0 b (leb c.0 highest) (leb r.0 highest) refl refl e in

@@ -8,11 +8,13 @@ use lib.ListN.{length, get_or}
 use Rattle.paper.specs.Choice.{◌gives◌or◌}
 use Rattle.paper.specs.Words.{Position, ControlElement, Element, G0, G1, G2, G3, Kind, Of94, Of96, Count, Set}
 use Rattle.paper.specs.Words.{Intermediates, Shift, LS0, LS1, LS2, LS3, LS1R, LS2R, LS3R, SS2, SS3}
-use Rattle.paper.specs.Words.{PositionBytes, Refusal, Answer, Numbered, Located}
+use Rattle.paper.specs.Words.{PositionBytes, Refusal, Answer, Located}
 use Rattle.paper.specs.Sets.{size_of, bytes_of}
 use Rattle.paper.specs.Refusals.{number_of}
 use Rattle.paper.specs.Results.{control_element_number, element_number, shift_number, word_of, values_of, Returned}
 use Rattle.paper.specs.Results.{returned_number, returned_position}
+use Rattle.std.specs.Prelude.{Option, Some, None}
+use Rattle.paper.specs.LatinGreek.{located_at}
 
 -- each thing from its number
 abbrev control_element_from : ℕ → ControlElement
@@ -164,29 +166,29 @@ pub answers_told_apart : (a b : Answer) → word_of a ≡ word_of b → values_o
 answers_told_apart a b w v = sym (answer_again a) ∙ (λ i. answer_from (w i) (v i)) ∙ answer_again b
 
 -- and so for the lookups: a refusal, or the value
-abbrev numbered_from : Returned → Numbered
-numbered_from r = eqb r.refusal 0 gives Numbered.Number (get_or r.values 0 0) or Numbered.NoNumber
+abbrev numbered_from : Returned → Option ℕ
+numbered_from r = eqb r.refusal 0 gives Some (get_or r.values 0 0) or None
 
-numbered_again : (a : Numbered) → numbered_from (returned_number a) ≡ a
-numbered_again (Numbered.Number n) = refl
-numbered_again Numbered.NoNumber = refl
+numbered_again : (a : Option ℕ) → numbered_from (returned_number a) ≡ a
+numbered_again (Some n) = refl
+numbered_again None = refl
 
 abbrev positioned_from : List ℕ → Position
 positioned_from v = record { column = record { 0 = get_or v 3 0 }; row = record { 0 = get_or v 4 0 } }
 
-abbrev located_from : Returned → Located
+abbrev located_from : Returned → Option Located
 located_from r =
     eqb r.refusal 0 gives
-    Located.At (set_from (get_or r.values 0 0) (get_or r.values 1 0) (get_or r.values 2 0)) (positioned_from r.values) or
-    Located.Nowhere
+    Some (located_at (set_from (get_or r.values 0 0) (get_or r.values 1 0) (get_or r.values 2 0)) (positioned_from r.values)) or
+    None
 
-located_again : (a : Located) → located_from (returned_position a) ≡ a
-located_again (Located.At x p) = λ i. Located.At (set_again x i) p
-located_again Located.Nowhere = refl
+located_again : (a : Option Located) → located_from (returned_position a) ≡ a
+located_again (Some l) = λ i. Some (located_at (set_again l.set i) l.position)
+located_again None = refl
 
 pub lookups_told_apart :
-    ((a b : Numbered) → returned_number a ≡ returned_number b → a ≡ b) ×
-    ((a b : Located) → returned_position a ≡ returned_position b → a ≡ b)
+    ((a b : Option ℕ) → returned_number a ≡ returned_number b → a ≡ b) ×
+    ((a b : Option Located) → returned_position a ≡ returned_position b → a ≡ b)
 lookups_told_apart = (
   λ a b e. sym (numbered_again a) ∙ ap numbered_from e ∙ numbered_again b,
   λ a b e. sym (located_again a) ∙ ap located_from e ∙ located_again b,

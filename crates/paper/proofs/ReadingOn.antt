@@ -11,8 +11,8 @@ use native.Mathlib.Nat.{eq-or-lt_of_le}
 use lib.Dec.{eqb}
 use lib.ListN.{length, get_or}
 use Rattle.paper.specs.Choice.{between}
-use Rattle.paper.specs.Words.{Form, Seven, Eight, Area, Element, G0, G1, Sets, LS0, LS1, LS2, LS3, LS1R, LS2R, LS3R, SS2, SS3}
-use Rattle.paper.specs.Words.{GraphicArea, Within, Standing, Reader, Answer, Answered, EndWord, FirstRefusal, Never}
+use Rattle.paper.specs.Words.{Form, Seven, Eight, Area, Element, G0, G1, Sets, LS0, LS1, LS2, LS3, LS1R, LS2R, LS3R, SS2, SS3, Refused}
+use Rattle.paper.specs.Words.{GraphicArea, Within, Standing, Reader, Answer, Answered, EndWord}
 use Rattle.paper.specs.CodeTable.{area_of, form_has, column_area, form_has_column, position_of, so, si}
 use Rattle.paper.specs.Sets.{set_byte}
 use Rattle.paper.specs.Starting.{opening_start, opening}
@@ -30,6 +30,7 @@ use Rattle.paper.proofs.AnswersWithoutTheRecord.{answer_of, record_of, answers_a
 use Rattle.paper.proofs.BeginningsThatFallBack.{matched_at_most, without, less_without, falls_back}
 use Rattle.paper.proofs.RecordsNotCompleted.{length_of, from_gone, from_gone_lem, no_mark, breaks_off}
 use Rattle.paper.proofs.WrittenBytes.{form_has_area}
+use Rattle.std.specs.Prelude.{Option, None}
 
 -- how many bytes the two openings have in common
 abbrev pub common : ℕ
@@ -37,7 +38,7 @@ common = length opening_start
 
 -- Read from here, the bytes refuse nothing, end whole and have this sequence, however much of the common bytes of an opening has gone by
 pub record ReadsAs (r : Reader) (bytes : List ℕ) (l : List Entry) : Type 0 where
-  pub never : (at : ℕ) → first_refusal (answers_from at r bytes) ≡ Never
+  pub never : (at : ℕ) → first_refusal (answers_from at r bytes) ≡ None
   pub whole : end_of_text (reader_after r bytes) ≡ EndWord.Whole
   pub sequence : (k : ℕ) → k ≤ common → sequence_from (recording k r) bytes ≡ l
 
@@ -52,7 +53,7 @@ all_longer Seven = omega arith
 all_longer Eight = omega arith
 
 abbrev NoRefusal : Answer → Type 0
-NoRefusal a = (later : FirstRefusal) (at : ℕ) → refusal_or later at a ≡ later
+NoRefusal a = (later : Option Refused) (at : ℕ) → refusal_or later at a ≡ later
 
 taken_over : (m : Form) (k : ℕ) → k ≤ common → (after before : Standing) → recorded after before m k ≤ common
 taken_over m k h (Standing.InStep w) (Standing.InStep v) = gives_has (λ (j : ℕ). j ≤ common) (is_complete m k) (omega arith) h

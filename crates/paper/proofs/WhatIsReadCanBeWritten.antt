@@ -11,7 +11,7 @@ use Rattle.paper.specs.Choice.{between}
 use Rattle.paper.specs.Words.{Form, Seven, Eight, Area, Element, G1, Kind, Count, Sets, SetByte, OfSpace, OfDelete, OfSet, Outside}
 use Rattle.paper.specs.Words.{SequenceByte, Intermediate, Final, Neither, Intermediates, Shift, LS0, LS1, LS2, LS3, LS1R, LS2R}
 use Rattle.paper.specs.Words.{LS3R, SS2, SS3, Meaning, NoMeaning, Function, Shifts, GraphicArea, PositionBytes, Within, Standing}
-use Rattle.paper.specs.Words.{Reader, Refusal, Answer, Answered, FirstRefusal, Never}
+use Rattle.paper.specs.Words.{Reader, Refusal, Answer, Answered}
 use Rattle.paper.specs.CodeTable.{area_of, form_has, column_area, form_has_column, position_of, bit8, so, si, esc}
 use Rattle.paper.specs.Sets.{bytes_of, set_in, set_byte}
 use Rattle.paper.specs.Starting.{starting_sets, started, opening}
@@ -35,6 +35,8 @@ use Rattle.paper.proofs.WrittenTurnByTurn.{later_refuse_nothing, sets_by_the_ans
 use Rattle.paper.proofs.WhatCanBeWritten.{AllOfSet, AllIntermediate, MayHave, CanBeWritten, ended, said, opened, InSteps}
 use Rattle.paper.proofs.WhatCanBeWritten.{SoFar, Stands, NotRefused}
 use Rattle.paper.proofs.OtherInAnyForm.{other_in_any_form}
+use Rattle.std.specs.Prelude.{Option, None}
+use Rattle.paper.specs.Words.{Refused}
 
 -- ---- a byte of a character
 
@@ -212,7 +214,7 @@ stands_in_step t (Standing.InStep w) h = tt
 stands_in_step t (Standing.Lost k n) h = absurd h
 
 -- where a text refuses nothing, its first answer is no refusal
-pub not_refused : (a : Answer) (at : ℕ) (later : FirstRefusal) → refusal_or later at a ≡ Never → NotRefused a
+pub not_refused : (a : Answer) (at : ℕ) (later : Option Refused) → refusal_or later at a ≡ None → NotRefused a
 not_refused a at later h n e = impossible (cc (ap (refusal_or later at) e))
 
 -- an answer that can be written joins what can be written, or is left out
@@ -240,7 +242,7 @@ joins (Answer.InStep n) t l h more = absurd h
 
 -- of a text from a reader: where it refuses nothing, its sequence can be written
 abbrev pub Written : Reader → List ℕ → List Entry → Type 0
-Written r text l = (at : ℕ) → Stands r.sets r.standing → first_refusal (answers_from at r text) ≡ Never → InSteps r.sets l
+Written r text l = (at : ℕ) → Stands r.sets r.standing → first_refusal (answers_from at r text) ≡ None → InSteps r.sets l
 
 written_byte : (r : Reader) (b : ℕ) (bs : List ℕ) (l : List Entry) → Written (answer_of r b).reader bs l →
     Written r (b ∷ bs) (with_answer (answer_of r b).answer l)
@@ -248,7 +250,7 @@ unfolding answer_to
 written_byte r b bs l more at h never =
     let a = (answer_of r b).answer in
     let next : Reader = (answer_of r b).reader in
-    let later : FirstRefusal = first_refusal (answers_from (suc at) (answer_to r b).reader bs) in
+    let later : Option Refused = first_refusal (answers_from (suc at) (answer_to r b).reader bs) in
     let fair = fair_standing (recording 0 r) b r.standing h (not_refused a at later never) in
     joins a r.sets l fair.0
     (subst (λ (t : Sets). InSteps t l) (sets_by_the_answer r b (stands_in_step r.sets r.standing h))
@@ -260,7 +262,7 @@ abbrev pub past : ℕ → List ℕ → ℕ
 past at [] = at
 past at (b ∷ bs) = past (suc at) bs
 
-abbrev pub from_opening : Form → ℕ → List ℕ → FirstRefusal
+abbrev pub from_opening : Form → ℕ → List ℕ → Option Refused
 from_opening m at rest = first_refusal (answers_from (past at (opening m)) (started m) rest)
 
 pub refused_after : (m : Form) (t : Sets) (l g : Element) (at : ℕ) (rest : List ℕ) → (m ≡ Seven → g ≡ G1) →
@@ -276,7 +278,7 @@ written_whole : (r : Reader) (rest : List ℕ) (l : List Entry) → r.standing �
 written_whole r rest l ground shows more at h never =
     let m : Form = r.form in
     let text : List ℕ = opening m ++ rest in
-    let nothing : from_opening m at rest ≡ Never =
+    let nothing : from_opening m at rest ≡ None =
     sym (refused_after m r.sets r.gl r.gr at rest shows) ∙
     ap (λ (s : Standing). first_refusal (answers_from at (recording 0 (standing_at s r)) text)) (sym ground) ∙
     ap first_refusal (answers_alike text at 0 r.gone r) ∙ never in
@@ -288,5 +290,5 @@ pub rest_can_be_written : (text : List ℕ) (r : Reader) → ShowsG1 r → Writt
 rest_can_be_written =
     by_openings Written (λ r at h none. record { steps = ended; is = refl; all = tt }) written_byte written_whole
 
-pub can_be_written : (m : Form) (text : List ℕ) → first_refusal (answers_of m text) ≡ Never → InSteps starting_sets (sequence_of m text)
+pub can_be_written : (m : Form) (text : List ℕ) → first_refusal (answers_of m text) ≡ None → InSteps starting_sets (sequence_of m text)
 can_be_written m text never = rest_can_be_written text (started m) (λ seven. refl) 0 tt never

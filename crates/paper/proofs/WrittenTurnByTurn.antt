@@ -4,10 +4,9 @@ use Prim.Native.Nat.{ℕ, ◌-◌}
 use mathlib.Core.Path.{◌≡◌, refl}
 use mathlib.Core.List.{List, ◌++◌}
 use lib.Dec.{ltb, eqb}
-use Rattle.paper.specs.Words.{Form, Seven, Eight, Area, Element, Set, SetByte, OfSpace, OfDelete, OfSet, Outside}
+use Rattle.paper.specs.Words.{Form, Seven, Eight, Area, Element, Set, SetByte, OfSpace, OfDelete, OfSet, Outside, Refused}
 use Rattle.paper.specs.Words.{SequenceByte, Intermediate, Final, Neither, Intermediates, Meaning, NoMeaning, Function, Shifts}
 use Rattle.paper.specs.Words.{GraphicArea, PositionBytes, Within, Standing, Reader, Answer, Answered}
-use Rattle.paper.specs.Words.{FirstRefusal, Never}
 use Rattle.paper.specs.CodeTable.{area_of, form_has, bit8, so, si, esc}
 use Rattle.paper.specs.Sets.{bytes_of, set_in}
 use Rattle.paper.specs.Sequences.{sequence_byte, c1_function, meaning_of}
@@ -18,6 +17,7 @@ use Rattle.paper.specs.Surveying.{refusal_or}
 use Rattle.paper.specs.WrittenForms.{Entry, with_answer, Writer, written_for, sets_with, writer_after, written_from}
 use Rattle.paper.proofs.Choices.{impossible, gives_has}
 use Rattle.paper.proofs.LawfulAnswers.{IsInStep}
+use Rattle.std.specs.Prelude.{Option, None}
 
 -- ---- a turn
 
@@ -40,7 +40,7 @@ one_turn Answer.Skipped to w l = refl
 one_turn (Answer.InStep n) to w l = refl
 
 -- where this answer and those after it refuse nothing, those after it do not
-pub later_refuse_nothing : (a : Answer) (at : ℕ) (later : FirstRefusal) → refusal_or later at a ≡ Never → later ≡ Never
+pub later_refuse_nothing : (a : Answer) (at : ℕ) (later : Option Refused) → refusal_or later at a ≡ None → later ≡ None
 later_refuse_nothing Answer.NothingYet at later h = h
 later_refuse_nothing (Answer.Char e x p) at later h = h
 later_refuse_nothing Answer.Space at later h = h

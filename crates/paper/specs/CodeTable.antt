@@ -1,18 +1,18 @@
 -- Code table: c/r is column c, row r: the byte 16c + r.
 -- So a byte that is written in hex shows its column and its row: 2/8 is 0x28, 5/15 is 0x5F.
-use Rattle.std.specs.Prelude.{ℕ, ◌+◌, ◌*◌, ◌/◌, ◌%◌, Bool, true, leb}
+use Rattle.std.specs.Prelude.{ℕ, ◌+◌, ◌*◌, ◌/◌, ◌%◌, Bool, true, leb, Option, Some, None}
 use Rattle.paper.specs.Choice.{◌gives◌or◌}
-use Rattle.paper.specs.Words.{Column, Row, Position, Made, Area, Form, Seven, Eight}
+use Rattle.paper.specs.Words.{Column, Row, Position, Area, Form, Seven, Eight}
 
 -- columns and rows are numbered 0 to 15
 abbrev pub highest : ℕ
 highest = 15
 
-unfoldable pub byte_at : Column → Row → Made
+unfoldable pub byte_at : Column → Row → Option ℕ
 byte_at c r =
     leb c.0 highest gives
-    (leb r.0 highest gives Made.Byte (16 * c.0 + r.0) or Made.NoPosition) or
-    Made.NoPosition
+    (leb r.0 highest gives Some (16 * c.0 + r.0) or None) or
+    None
 
 -- a byte taken apart
 unfoldable pub position_of : ℕ → Position

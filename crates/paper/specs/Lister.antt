@@ -1,15 +1,15 @@
 -- Lister: the line of an answer, the lines of a text, and how many of them a lent buffer takes.
-use Rattle.std.specs.Prelude.{ℕ, zero, suc, ◌+◌, ◌-◌, ◌/◌, ◌%◌, List, [], ◌∷◌, ◌++◌, leb, ltb, length, drop}
+use Rattle.std.specs.Prelude.{ℕ, zero, suc, ◌+◌, ◌-◌, ◌/◌, ◌%◌, List, [], ◌∷◌, ◌++◌, leb, ltb, length, drop, Result, Ok, Err}
 use Prim.Native.Char.{code}
 use Prim.Native.String.{String}
 use Prim.Native.String.{[] as end, ◌∷◌ as ◌then◌}
 use Rattle.paper.specs.Choice.{◌gives◌or◌}
-use Rattle.paper.specs.Words.{Form, ControlElement, Element, G0, G1, G2, G3, Count, Set, Intermediates}
+use Rattle.paper.specs.Words.{Form, ControlElement, Element, G0, G1, G2, G3, Count, Set, Intermediates, Refused}
 use Rattle.paper.specs.Words.{Shift, LS0, LS1, LS2, LS3, LS1R, LS2R, LS3R, SS2, SS3, PositionBytes, Reader, Refusal}
-use Rattle.paper.specs.Words.{Answer, EndWord, Listed, Converted}
+use Rattle.paper.specs.Words.{Answer, EndWord, Listed}
 use Rattle.paper.specs.Sets.{size_of, bytes_of, space}
 use Rattle.paper.specs.Starting.{started}
-use Rattle.paper.specs.Refusals.{number_of, longest_text}
+use Rattle.paper.specs.Refusals.{number_of, longest_text, refusal_at}
 use Rattle.paper.specs.Results.{control_size}
 use Rattle.paper.specs.Answering.{answer_to, end_of_text}
 
@@ -119,13 +119,13 @@ listing m l = leb (length l) longest_text gives lines_from (length l) 0 (started
 
 -- what a call answers and the bytes that it writes
 pub record Filled : Type 0 where
-  pub answer : Listed
+  pub answer : Result Listed Refusal
   pub bytes : List ℕ
 
 -- the next line does not fit: nothing was written, or the place and the reader to go on with
-abbrev pub stops : ℕ → ℕ → Reader → Listed
-stops zero at r = Listed.Refused Refusal.BufferShort
-stops (suc n) at r = Listed.More (suc n) at r
+abbrev pub stops : ℕ → ℕ → Reader → Result Listed Refusal
+stops zero at r = Err Refusal.BufferShort
+stops (suc n) at r = Ok (Listed.More (suc n) at r)
 
 abbrev pub after : List ℕ → Filled → Filled
 after line f = record { answer = f.answer; bytes = line ++ f.bytes }
@@ -134,7 +134,7 @@ after line f = record { answer = f.answer; bytes = line ++ f.bytes }
 abbrev pub fill_from : ℕ → ℕ → ℕ → ℕ → Reader → List ℕ → Filled
 fill_from n written room at r [] =
     leb (length (end_line n (end_of_text r))) room gives
-    record { answer = Listed.Done (written + length (end_line n (end_of_text r))); bytes = end_line n (end_of_text r) } or
+    record { answer = Ok (Listed.Done (written + length (end_line n (end_of_text r)))); bytes = end_line n (end_of_text r) } or
     record { answer = stops written at r; bytes = [] }
 fill_from n written room at r (b ∷ bs) =
     let next = line_of at (answer_to r b).answer in
@@ -146,11 +146,11 @@ fill_from n written room at r (b ∷ bs) =
 unfoldable pub filled : ℕ → ℕ → Reader → List ℕ → Filled
 filled room at r l =
     leb (length l) longest_text gives fill_from (length l) 0 room at r (drop at l) or
-    record { answer = Listed.Refused Refusal.TooLong; bytes = [] }
+    record { answer = Err Refusal.TooLong; bytes = [] }
 
 -- one line into a buffer of so many bytes: its length, or 9 at 0, and what is written
-abbrev pub line_fits : ℕ → List ℕ → Converted
-line_fits room line = leb (length line) room gives Converted.Done (length line) or Converted.Refused Refusal.BufferShort 0
+abbrev pub line_fits : ℕ → List ℕ → Result ℕ Refused
+line_fits room line = leb (length line) room gives Ok (length line) or Err (refusal_at Refusal.BufferShort 0)
 
 abbrev pub line_written : ℕ → List ℕ → List ℕ
 line_written room line = leb (length line) room gives line or []

@@ -1,8 +1,8 @@
 -- The paper's number and values of each case of an answer: demands and examples speak through these.
-use Rattle.std.specs.Prelude.{ℕ, List, [], ◌∷◌, ◌++◌}
-use Rattle.paper.specs.Words.{Made, ControlElement, Element, G0, G1, G2, G3, Set, Intermediates, Shift, LS0}
+use Rattle.std.specs.Prelude.{ℕ, List, [], ◌∷◌, ◌++◌, Option, Some, None, Result, Ok, Err}
+use Rattle.paper.specs.Words.{ControlElement, Element, G0, G1, G2, G3, Set, Intermediates, Shift, LS0, Refused}
 use Rattle.paper.specs.Words.{LS1, LS2, LS3, LS1R, LS2R, LS3R, SS2, SS3, PositionBytes, Refusal, Answer}
-use Rattle.paper.specs.Words.{EndWord, FirstRefusal, Never, First, Figures, Surveyed, Listed, Converted, Numbered, Located}
+use Rattle.paper.specs.Words.{EndWord, Figures, Listed, Located}
 use Rattle.paper.specs.Sets.{size_of, bytes_of}
 use Rattle.paper.specs.Refusals.{number_of}
 
@@ -127,41 +127,41 @@ pub record Returned : Type 0 where
 abbrev pub refused_lookup : Refusal → Returned
 refused_lookup r = record { refusal = number_of r; values = 0 ∷ [] }
 
-abbrev pub returned_made : Made → Returned
-returned_made (Made.Byte b) = record { refusal = 0; values = b ∷ [] }
-returned_made Made.NoPosition = refused_lookup Refusal.NoNumber
+abbrev pub returned_made : Option ℕ → Returned
+returned_made (Some b) = record { refusal = 0; values = b ∷ [] }
+returned_made None = refused_lookup Refusal.NoNumber
 
-abbrev pub returned_number : Numbered → Returned
-returned_number (Numbered.Number n) = record { refusal = 0; values = n ∷ [] }
-returned_number Numbered.NoNumber = refused_lookup Refusal.NoNumber
+abbrev pub returned_number : Option ℕ → Returned
+returned_number (Some n) = record { refusal = 0; values = n ∷ [] }
+returned_number None = refused_lookup Refusal.NoNumber
 
-abbrev pub returned_position : Located → Returned
-returned_position (Located.At x p) = record { refusal = 0; values = set_values x ++ (p.column.0 ∷ p.row.0 ∷ []) }
-returned_position Located.Nowhere = refused_lookup Refusal.NotMapped
+abbrev pub returned_position : Option Located → Returned
+returned_position (Some l) = record { refusal = 0; values = set_values l.set ++ (l.position.column.0 ∷ l.position.row.0 ∷ []) }
+returned_position None = refused_lookup Refusal.NotMapped
 
 -- a survey returns its figures in their order, then the first refusal's number and place, 0 and 0 where there is none, and the
 -- end; nothing where it refuses
-abbrev pub first_values : FirstRefusal → List ℕ
-first_values Never = 0 ∷ 0 ∷ []
-first_values (First r at) = number_of r ∷ at ∷ []
+abbrev pub first_values : Option Refused → List ℕ
+first_values None = 0 ∷ 0 ∷ []
+first_values (Some r) = number_of r.refusal ∷ r.place ∷ []
 
 abbrev pub figures_values : Figures → List ℕ
 figures_values f =
     f.characters ∷ f.spaces ∷ f.deletes ∷ f.controls ∷ f.designations ∷ f.shifts ∷ f.others ∷ f.refusals ∷ f.insteps ∷
     (first_values f.first ++ (end_of f.end ∷ []))
 
-abbrev pub returned_survey : Surveyed → Returned
-returned_survey (Surveyed.Has f) = record { refusal = 0; values = figures_values f }
-returned_survey (Surveyed.Refused r) = record { refusal = number_of r; values = [] }
+abbrev pub returned_survey : Result Figures Refusal → Returned
+returned_survey (Ok f) = record { refusal = 0; values = figures_values f }
+returned_survey (Err r) = record { refusal = number_of r; values = [] }
 
 -- a listing returns the length of what it wrote, 0 where it refuses, and where there is more the place to go on with; the
 -- reader there has no number
-abbrev pub returned_listing : Listed → Returned
-returned_listing (Listed.Done n) = record { refusal = 0; values = n ∷ [] }
-returned_listing (Listed.More n at r) = record { refusal = 0; values = n ∷ at ∷ [] }
-returned_listing (Listed.Refused r) = record { refusal = number_of r; values = 0 ∷ [] }
+abbrev pub returned_listing : Result Listed Refusal → Returned
+returned_listing (Ok (Listed.Done n)) = record { refusal = 0; values = n ∷ [] }
+returned_listing (Ok (Listed.More n at r)) = record { refusal = 0; values = n ∷ at ∷ [] }
+returned_listing (Err r) = record { refusal = number_of r; values = 0 ∷ [] }
 
 -- a conversion returns a place, 0 where it does not refuse, and the length of its output, 0 where it refuses
-abbrev pub returned_conversion : Converted → Returned
-returned_conversion (Converted.Done n) = record { refusal = 0; values = 0 ∷ n ∷ [] }
-returned_conversion (Converted.Refused r at) = record { refusal = number_of r; values = at ∷ 0 ∷ [] }
+abbrev pub returned_conversion : Result ℕ Refused → Returned
+returned_conversion (Ok n) = record { refusal = 0; values = 0 ∷ n ∷ [] }
+returned_conversion (Err r) = record { refusal = number_of r.refusal; values = r.place ∷ 0 ∷ [] }

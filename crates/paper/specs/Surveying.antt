@@ -1,8 +1,8 @@
 -- What a text has: how many answers of each word, its first refusal with the place, and how it ends.
-use Rattle.std.specs.Prelude.{ℕ, suc, List, [], ◌∷◌, leb, eqb, length}
+use Rattle.std.specs.Prelude.{ℕ, suc, List, [], ◌∷◌, leb, eqb, length, Option, Some, None, Result, Ok, Err}
 use Rattle.paper.specs.Choice.{◌gives◌or◌}
-use Rattle.paper.specs.Words.{Form, Refusal, Answer, FirstRefusal, Never, First, Figures, Surveyed}
-use Rattle.paper.specs.Refusals.{longest_text}
+use Rattle.paper.specs.Words.{Form, Refusal, Answer, Figures, Refused}
+use Rattle.paper.specs.Refusals.{longest_text, refusal_at}
 use Rattle.paper.specs.Results.{word_of, char_word, space_word, delete_word, control_word, designate_word, shift_word}
 use Rattle.paper.specs.Results.{other_word, refused_word, instep_word}
 use Rattle.paper.specs.Texts.{Placed, answers_of, end_word}
@@ -13,7 +13,7 @@ how_many w [] = 0
 how_many w (a ∷ l) = eqb (word_of a.answer) w gives suc (how_many w l) or how_many w l
 
 -- the first refusal: this answer, or else one of those that follow
-abbrev pub refusal_or : FirstRefusal → ℕ → Answer → FirstRefusal
+abbrev pub refusal_or : Option Refused → ℕ → Answer → Option Refused
 refusal_or later at Answer.NothingYet = later
 refusal_or later at (Answer.Char e x p) = later
 refusal_or later at Answer.Space = later
@@ -23,18 +23,18 @@ refusal_or later at (Answer.DesignateControls w f) = later
 refusal_or later at (Answer.Designate e x) = later
 refusal_or later at (Answer.Shift h) = later
 refusal_or later at (Answer.Other s f) = later
-refusal_or later at (Answer.Refused n) = First n at
+refusal_or later at (Answer.Refused n) = Some (refusal_at n at)
 refusal_or later at Answer.Skipped = later
 refusal_or later at (Answer.InStep n) = later
 
-abbrev pub first_refusal : List Placed → FirstRefusal
-first_refusal [] = Never
+abbrev pub first_refusal : List Placed → Option Refused
+first_refusal [] = None
 first_refusal (a ∷ l) = refusal_or (first_refusal l) a.offset a.answer
 
 -- the first of two refusals, where the second comes later
-abbrev pub first_of : FirstRefusal → FirstRefusal → FirstRefusal
-first_of Never second = second
-first_of (First n at) second = First n at
+abbrev pub first_of : Option Refused → Option Refused → Option Refused
+first_of None second = second
+first_of (Some r) second = Some r
 
 abbrev pub figures_of : Form → List ℕ → Figures
 figures_of m l = record {
@@ -52,5 +52,5 @@ figures_of m l = record {
 }
 
 -- 8 above 65,536 bytes
-unfoldable pub survey_of : Form → List ℕ → Surveyed
-survey_of m l = leb (length l) longest_text gives Surveyed.Has (figures_of m l) or Surveyed.Refused Refusal.TooLong
+unfoldable pub survey_of : Form → List ℕ → Result Figures Refusal
+survey_of m l = leb (length l) longest_text gives Ok (figures_of m l) or Err Refusal.TooLong

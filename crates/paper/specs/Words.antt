@@ -3,7 +3,6 @@
 pub use Rattle.paper.specs.declared.Column.{Column}
 pub use Rattle.paper.specs.declared.Row.{Row}
 pub use Rattle.paper.specs.declared.Position.{Position}
-pub use Rattle.paper.specs.declared.Made.{Made}
 pub use Rattle.paper.specs.declared.Area.{Area}
 pub use Rattle.paper.specs.declared.Form.{Form}
 pub use Rattle.paper.specs.declared.Form.TheVariants.{Seven, Eight}
@@ -30,14 +29,10 @@ pub use Rattle.paper.specs.declared.Within.{Within}
 pub use Rattle.paper.specs.declared.Standing.{Standing}
 pub use Rattle.paper.specs.declared.Reader.{Reader}
 pub use Rattle.paper.specs.declared.Refusal.{Refusal}
+pub use Rattle.paper.specs.declared.Refused.{Refused}
 pub use Rattle.paper.specs.declared.Answer.{Answer}
 pub use Rattle.paper.specs.declared.Answered.{Answered}
 pub use Rattle.paper.specs.declared.EndWord.{EndWord}
-pub use Rattle.paper.specs.declared.FirstRefusal.{FirstRefusal}
-pub use Rattle.paper.specs.declared.FirstRefusal.TheVariants.{Never, First}
 pub use Rattle.paper.specs.declared.Figures.{Figures}
-pub use Rattle.paper.specs.declared.Surveyed.{Surveyed}
 pub use Rattle.paper.specs.declared.Listed.{Listed}
-pub use Rattle.paper.specs.declared.Converted.{Converted}
-pub use Rattle.paper.specs.declared.Numbered.{Numbered}
 pub use Rattle.paper.specs.declared.Located.{Located}

@@ -1,28 +1,23 @@
 // The types of the paper, in the order of its sections. What they mean is said by the definitions in specs/, and what is
-// promised of them by the theorems in proofs/; there is no code here but the types.
+// promised of them by the theorems in proofs/; there is no code here but the types and their names.
 #![tactic(auto)]
+
+mod names;
 
 // ---- Code table and elements
 
 // c/r is column c, row r. A column number is never taken where a row number is due: each is a type of its own.
-#[derive(Clone, Copy)]
+#[derive(Clone, Copy, PartialEq, Eq)]
 pub struct Column(pub u8);
 
-#[derive(Clone, Copy)]
+#[derive(Clone, Copy, PartialEq, Eq)]
 pub struct Row(pub u8);
 
 // A position of the code table.
-#[derive(Clone, Copy)]
+#[derive(Clone, Copy, PartialEq, Eq)]
 pub struct Position {
     pub column: Column,
     pub row: Row,
-}
-
-// What a column and a row make: their byte, or no such position.
-#[derive(Clone, Copy)]
-pub enum Made {
-    Byte(u8),
-    NoPosition,
 }
 
 // The four areas of the code table.
@@ -42,13 +37,13 @@ pub enum Form {
 }
 
 // The elements that hold control sets, and those that hold graphic sets.
-#[derive(Clone, Copy)]
+#[derive(Clone, Copy, PartialEq, Eq)]
 pub enum ControlElement {
     C0,
     C1,
 }
 
-#[derive(Clone, Copy)]
+#[derive(Clone, Copy, PartialEq, Eq)]
 pub enum Element {
     G0,
     G1,
@@ -57,14 +52,14 @@ pub enum Element {
 }
 
 // Of 94 or 96 type.
-#[derive(Clone, Copy)]
+#[derive(Clone, Copy, PartialEq, Eq)]
 pub enum Kind {
     Of94,
     Of96,
 }
 
 // How many bytes there are to a character.
-#[derive(Clone, Copy)]
+#[derive(Clone, Copy, PartialEq, Eq)]
 pub enum Count {
     One,
     Two,
@@ -72,7 +67,7 @@ pub enum Count {
 }
 
 // A graphic set: its size, which is kind and count, and its Final Byte F.
-#[derive(Clone, Copy)]
+#[derive(Clone, Copy, PartialEq, Eq)]
 pub struct Set {
     pub kind: Kind,
     pub count: Count,
@@ -110,7 +105,7 @@ pub enum SequenceByte {
 }
 
 // The intermediates seen since ESC, in their order.
-#[derive(Clone, Copy)]
+#[derive(Clone, Copy, PartialEq, Eq)]
 pub enum Intermediates {
     None,
     One(u8),
@@ -118,7 +113,7 @@ pub enum Intermediates {
 }
 
 // The shift functions by name.
-#[derive(Clone, Copy)]
+#[derive(Clone, Copy, PartialEq, Eq)]
 pub enum Shift {
     LS0,
     LS1,
@@ -132,7 +127,7 @@ pub enum Shift {
 }
 
 // What a sequence means.
-#[derive(Clone, Copy)]
+#[derive(Clone, Copy, PartialEq, Eq)]
 pub enum Meaning {
     // a sequence without meaning
     NoMeaning,
@@ -158,7 +153,7 @@ pub enum GraphicArea {
 }
 
 // A character's 7-bit position bytes.
-#[derive(Clone, Copy)]
+#[derive(Clone, Copy, PartialEq, Eq)]
 pub enum PositionBytes {
     One(u8),
     Two(u8, u8),
@@ -194,39 +189,46 @@ pub struct Reader {
 
 // ---- Refusal numbers
 
-#[derive(Clone, Copy)]
+#[derive(Clone, Copy, PartialEq, Eq)]
 pub enum Refusal {
-    // 1: a byte of 128 or more in 7-bit form
-    ByteOfEightBits,
-    // 2: inside a sequence, a byte outside 2/0 to 7/14
-    NotOfSequence,
-    // 3: a third intermediate
-    ThirdIntermediate,
-    // 4: a sequence without meaning
-    WithoutMeaning,
-    // 5: under 94 type 2/0, 7/15, 10/0 or 15/15, in GR, after a single shift or as a later byte
-    NotOfSet,
-    // 6: after a single shift or inside a character, a byte of another area, controls and ESC included
-    AnotherArea,
-    // 7: the text ends inside a sequence, after a single shift or inside a character
-    EndsInside,
-    // 8: an input longer than 65,536 bytes
-    TooLong,
-    // 9: a lent buffer shorter than the output
-    BufferShort,
-    // 10: no Unicode number for this set and position, or no such position
-    NoNumber,
-    // 11: a Unicode number in neither mapped set
-    NotMapped,
-    // 13: an input to be shortened that is longer than 4,096 bytes (12 is free)
-    InputTooLong,
-    // 14: a lent work buffer below 65,536 bytes
-    WorkBufferShort,
+    // a byte of 128 or more in 7-bit form
+    ByteOfEightBits = 1,
+    // inside a sequence, a byte outside 2/0 to 7/14
+    NotOfSequence = 2,
+    // a third intermediate
+    ThirdIntermediate = 3,
+    // a sequence without meaning
+    WithoutMeaning = 4,
+    // under 94 type 2/0, 7/15, 10/0 or 15/15, in GR, after a single shift or as a later byte
+    NotOfSet = 5,
+    // after a single shift or inside a character, a byte of another area, controls and ESC included
+    AnotherArea = 6,
+    // the text ends inside a sequence, after a single shift or inside a character
+    EndsInside = 7,
+    // an input longer than 65,536 bytes
+    TooLong = 8,
+    // a lent buffer shorter than the output
+    BufferShort = 9,
+    // no Unicode number for this set and position, or no such position
+    NoNumber = 10,
+    // a Unicode number in neither mapped set
+    NotMapped = 11,
+    // an input to be shortened that is longer than 4,096 bytes (12 is free)
+    InputTooLong = 13,
+    // a lent work buffer below 65,536 bytes
+    WorkBufferShort = 14,
+}
+
+// A refusal with its place.
+#[derive(Clone, Copy, PartialEq, Eq)]
+pub struct Refused {
+    pub refusal: Refusal,
+    pub place: usize,
 }
 
 // ---- Answer to one byte
 
-#[derive(Clone, Copy)]
+#[derive(Clone, Copy, PartialEq, Eq)]
 pub enum Answer {
     NothingYet,
     Char(Element, Set, PositionBytes),
@@ -253,7 +255,7 @@ pub struct Answered {
 }
 
 // At the end of a text.
-#[derive(Clone, Copy)]
+#[derive(Clone, Copy, PartialEq, Eq)]
 pub enum EndWord {
     Whole,
     Inside,
@@ -262,14 +264,7 @@ pub enum EndWord {
 
 // ---- What a text has
 
-// The first refusal of a text with its place, if there is one.
-#[derive(Clone, Copy)]
-pub enum FirstRefusal {
-    Never,
-    First(Refusal, usize),
-}
-
-// How many answers of each word a text has, the first refusal, and how the text ends.
+// How many answers of each word a text has, its first refusal if there is one, and how the text ends.
 #[derive(Clone, Copy)]
 pub struct Figures {
     pub characters: usize,
@@ -281,49 +276,24 @@ pub struct Figures {
     pub others: usize,
     pub refusals: usize,
     pub insteps: usize,
-    pub first: FirstRefusal,
+    pub first: Option<Refused>,
     pub end: EndWord,
-}
-
-// The figures of a text, or the refusal of one that is too long.
-#[derive(Clone, Copy)]
-pub enum Surveyed {
-    Has(Figures),
-    Refused(Refusal),
 }
 
 // ---- Lister
 
-// What a call wrote of a text's lines: all that were left; so many bytes, with the place and the reader to go on with; or
-// nothing, with the refusal.
+// What a call wrote of a text's lines: all that were left, or so many bytes, with the place and the reader to go on with.
 #[derive(Clone, Copy)]
 pub enum Listed {
     Done(usize),
     More(usize, usize, Reader),
-    Refused(Refusal),
-}
-
-// ---- The two written forms
-
-// What a call that writes into a lent buffer answers, as a conversion: the length of its output, or a refusal with its place.
-#[derive(Clone, Copy)]
-pub enum Converted {
-    Done(usize),
-    Refused(Refusal, usize),
 }
 
 // ---- Latin/Greek
 
-// Lookup there.
-#[derive(Clone, Copy)]
-pub enum Numbered {
-    Number(u32),
-    NoNumber,
-}
-
-// Lookup back.
-#[derive(Clone, Copy)]
-pub enum Located {
-    At(Set, Position),
-    Nowhere,
+// Where a Unicode number stands.
+#[derive(Clone, Copy, PartialEq, Eq)]
+pub struct Located {
+    pub set: Set,
+    pub position: Position,
 }

@@ -4,163 +4,106 @@
 #![tactic(auto)]
 
 use paper::{
-    Area, Column, ControlElement, Count, Element, Form, Kind, Made, Row, Set, SetByte, Sets,
+    Area, Column, ControlElement, Count, Element, Form, Kind, Position, Row, Set, SetByte, Sets,
 };
 use std::io;
-use std::num::wrapping_add_u32;
 
-fn print_hex(rt: &impl Print, byte: u8) -> io::Result<()> {
-    print!(rt; " {byte:02x}")
-}
+const CONTROL_ELEMENTS: [ControlElement; 2] = [ControlElement::C0, ControlElement::C1];
 
-fn print_decimal(rt: &impl Print, value: u8) -> io::Result<()> {
-    print!(rt; " {value}")
-}
+const ELEMENTS: [Element; 4] = [Element::G0, Element::G1, Element::G2, Element::G3];
 
-fn print_area(rt: &impl Print, area: Area) -> io::Result<()> {
+fn area_name(area: Area) -> &'static str {
     match area {
-        Area::C0 => rt.write_all(b" C0"),
-        Area::GL => rt.write_all(b" GL"),
-        Area::C1 => rt.write_all(b" C1"),
-        Area::GR => rt.write_all(b" GR"),
+        Area::C0 => "C0",
+        Area::GL => "GL",
+        Area::C1 => "C1",
+        Area::GR => "GR",
     }
 }
 
-fn print_has(rt: &impl Print, has: bool) -> io::Result<()> {
-    if has {
-        rt.write_all(b" 1")
-    } else {
-        rt.write_all(b" 0")
-    }
-}
-
-fn print_set_byte(rt: &impl Print, is: SetByte) -> io::Result<()> {
+fn set_byte_name(is: SetByte) -> &'static str {
     match is {
-        SetByte::OfSpace => rt.write_all(b" space"),
-        SetByte::OfDelete => rt.write_all(b" delete"),
-        SetByte::OfSet => rt.write_all(b" set"),
-        SetByte::Outside => rt.write_all(b" outside"),
+        SetByte::OfSpace => "space",
+        SetByte::OfDelete => "delete",
+        SetByte::OfSet => "set",
+        SetByte::Outside => "outside",
     }
 }
 
-fn print_line(rt: &impl Print, byte: u8) -> io::Result<()> {
-    rt.write_all(b"byte")?;
-    print_hex(rt, byte)?;
-    let position = codetable::position_of(byte);
-    let column = position.column;
-    let row = position.row;
-    print_decimal(rt, column.0)?;
-    print_decimal(rt, row.0)?;
-    print_area(rt, codetable::area_of(byte))?;
-    print_has(rt, codetable::form_has(Form::Seven, byte))?;
-    print_has(rt, codetable::form_has(Form::Eight, byte))?;
-    print_set_byte(rt, charsets::set_byte(Kind::Of94, byte))?;
-    print_set_byte(rt, charsets::set_byte(Kind::Of96, byte))?;
-    rt.write_all(b"\n")
+fn print_byte(rt: &impl Print, byte: u8) -> io::Result<()> {
+    let Position { column, row } = codetable::position_of(byte);
+    let area = area_name(codetable::area_of(byte));
+    let seven = u8::from(codetable::form_has(Form::Seven, byte));
+    let eight = u8::from(codetable::form_has(Form::Eight, byte));
+    let of_94 = set_byte_name(charsets::set_byte(Kind::Of94, byte));
+    let of_96 = set_byte_name(charsets::set_byte(Kind::Of96, byte));
+    println!(rt;
+        "byte {byte:02x} {} {} {area} {seven} {eight} {of_94} {of_96}",
+        column.0, row.0
+    )
 }
 
-fn lines(rt: &impl Print) -> io::Result<()> {
-    for byte in 0u16..256 {
-        print_line(rt, (byte % 256) as u8)?;
+fn print_bytes(rt: &impl Print) -> io::Result<()> {
+    for byte in 0u8..=255 {
+        print_byte(rt, byte)?;
     }
     Ok(())
 }
 
-// The byte that a column and a row make, where they make one.
-fn print_made(rt: &impl Print, column: Column, row: Row) -> io::Result<()> {
-    match codetable::byte_at(column, row) {
-        Made::Byte(byte) => {
-            rt.print(column.0)?;
-            print_decimal(rt, row.0)?;
-            print_hex(rt, byte)?;
-            rt.write_all(b"\n")
+// The bytes that columns and rows make, where they make one; and how many were asked, so that none is left out unseen.
+fn print_made(rt: &impl Print) -> io::Result<()> {
+    let mut asked: u32 = 0;
+    for column in 0u8..=255 {
+        for row in 0u8..=255 {
+            if let Some(byte) = codetable::byte_at(Column(column), Row(row)) {
+                println!(rt; "{column} {row} {byte:02x}")?;
+            }
+            // At most 65,536, so this never wraps; `+= 1` would want an invariant of both loops.
+            asked = asked.wrapping_add(1);
         }
-        Made::NoPosition => Ok(()),
     }
+    println!(rt; "{asked} asked")
 }
 
-fn rows(rt: &impl Print, column: Column) -> io::Result<u32> {
-    let mut asked: u32 = 0;
-    for row in 0u16..256 {
-        print_made(rt, column, Row((row % 256) as u8))?;
-        asked = wrapping_add_u32(asked, 1);
+fn print_sets(rt: &impl Print, name: &str, sets: Sets) -> io::Result<()> {
+    print!(rt; "{name}")?;
+    for element in CONTROL_ELEMENTS {
+        print!(rt; " {element} {:02x}", charsets::controls_in(sets, element))?;
     }
-    Ok(asked)
-}
-
-fn columns(rt: &impl Print) -> io::Result<u32> {
-    let mut asked: u32 = 0;
-    for column in 0u16..256 {
-        asked = wrapping_add_u32(asked, rows(rt, Column((column % 256) as u8))?);
+    for element in ELEMENTS {
+        let Set { kind, count, last } = charsets::set_in(sets, element);
+        print!(rt;
+            " {element} {} {} {last:02x}",
+            charsets::size_of(kind),
+            charsets::bytes_of(count)
+        )?;
     }
-    Ok(asked)
+    println!(rt)
 }
 
-fn print_controls(rt: &impl Print, sets: Sets, element: ControlElement) -> io::Result<()> {
-    match element {
-        ControlElement::C0 => rt.write_all(b" C0")?,
-        ControlElement::C1 => rt.write_all(b" C1")?,
-    }
-    print_hex(rt, charsets::controls_in(sets, element))
-}
-
-fn print_element(rt: &impl Print, element: Element) -> io::Result<()> {
-    match element {
-        Element::G0 => rt.write_all(b" G0"),
-        Element::G1 => rt.write_all(b" G1"),
-        Element::G2 => rt.write_all(b" G2"),
-        Element::G3 => rt.write_all(b" G3"),
-    }
-}
-
-fn print_set(rt: &impl Print, sets: Sets, element: Element) -> io::Result<()> {
-    print_element(rt, element)?;
-    let set = charsets::set_in(sets, element);
-    let kind = set.kind;
-    let count = set.count;
-    print_decimal(rt, charsets::size_of(kind))?;
-    print_decimal(rt, charsets::bytes_of(count))?;
-    print_hex(rt, set.last)
-}
-
-fn print_sets(rt: &impl Print, word: &[u8], sets: Sets) -> io::Result<()> {
-    rt.write_all(word)?;
-    print_controls(rt, sets, ControlElement::C0)?;
-    print_controls(rt, sets, ControlElement::C1)?;
-    print_set(rt, sets, Element::G0)?;
-    print_set(rt, sets, Element::G1)?;
-    print_set(rt, sets, Element::G2)?;
-    print_set(rt, sets, Element::G3)?;
-    rt.write_all(b"\n")
-}
-
-fn designations(rt: &impl Print) -> io::Result<()> {
+fn print_designations(rt: &impl Print) -> io::Result<()> {
     let start = charsets::starting_sets();
+    print_sets(rt, "start", start)?;
+    for element in CONTROL_ELEMENTS {
+        print_sets(
+            rt,
+            element.name(),
+            charsets::designate_controls(start, element, 0x7E),
+        )?;
+    }
     let set = Set {
         kind: Kind::Of96,
         count: Count::Three,
         last: 0x5A,
     };
-    print_sets(rt, b"start", start)?;
-    print_sets(
-        rt,
-        b"C0",
-        charsets::designate_controls(start, ControlElement::C0, 0x7E),
-    )?;
-    print_sets(
-        rt,
-        b"C1",
-        charsets::designate_controls(start, ControlElement::C1, 0x7E),
-    )?;
-    print_sets(rt, b"G0", charsets::designate(start, Element::G0, set))?;
-    print_sets(rt, b"G1", charsets::designate(start, Element::G1, set))?;
-    print_sets(rt, b"G2", charsets::designate(start, Element::G2, set))?;
-    print_sets(rt, b"G3", charsets::designate(start, Element::G3, set))
+    for element in ELEMENTS {
+        print_sets(rt, element.name(), charsets::designate(start, element, set))?;
+    }
+    Ok(())
 }
 
 fn main(rt: HostRuntime) -> io::Result<()> {
-    lines(&rt)?;
-    let asked = columns(&rt)?;
-    println!(rt; "{asked} asked")?;
-    designations(&rt)
+    print_bytes(&rt)?;
+    print_made(&rt)?;
+    print_designations(&rt)
 }

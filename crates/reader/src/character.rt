@@ -10,7 +10,7 @@ use charsets::{DELETE, SPACE, byte_in, position_in};
 use codetable::BIT_8;
 use paper::{
     Answer, Answered, Element, GraphicArea, Kind, PositionBytes, Reader, Refusal, Set, SetByte,
-    Within,
+    Sets, Within,
 };
 
 fn bytes_so_far(bytes: PositionBytes) -> u8
@@ -29,11 +29,12 @@ fn with_byte(bytes: PositionBytes, byte: u8) -> PositionBytes
     match bytes {
         PositionBytes::One(first) => PositionBytes::Two(first, byte),
         PositionBytes::Two(first, second) => PositionBytes::Three(first, second, byte),
-        PositionBytes::Three(first, second, third) => PositionBytes::Three(first, second, third),
+        PositionBytes::Three(..) => bytes,
     }
 }
 
-// A character that has come so far: complete with as many bytes as its set has to a character.
+// A character that has come so far: complete with as many bytes as its set has to a character. Here and below the parameters are those of
+// the paper's definitions, one by one: a struct of them would be taken apart in each clause.
 #[tactic(auto, using(paper::proofs::Tests::tests), unfolding(paper::specs::Characters::character))]
 fn character(
     element: Element,
@@ -44,10 +45,7 @@ fn character(
 ) -> Answered
     ensures { result ≡ character element set area bytes reader }
 {
-    let count = set.count;
-    let so_far = bytes_so_far(bytes);
-    let whole = charsets::bytes_of(count);
-    if so_far < whole {
+    if bytes_so_far(bytes) < charsets::bytes_of(set.count) {
         wait(Within::Character(element, area, bytes), reader)
     } else {
         say(Answer::Char(element, set, bytes), reader)
@@ -67,8 +65,7 @@ fn of_character(
     ensures { result ≡ of_character is element set area bytes byte reader }
 {
     match is {
-        SetByte::OfSpace => refuse(Refusal::NotOfSet, byte, reader),
-        SetByte::OfDelete => refuse(Refusal::NotOfSet, byte, reader),
+        SetByte::OfSpace | SetByte::OfDelete => refuse(Refusal::NotOfSet, byte, reader),
         SetByte::OfSet => character(element, set, area, bytes, reader),
         SetByte::Outside => refuse(Refusal::AnotherArea, byte, reader),
     }
@@ -85,8 +82,7 @@ pub(crate) fn later_byte(
 ) -> Answered
     ensures { result ≡ later_byte element set area bytes byte reader }
 {
-    let kind = set.kind;
-    let is = byte_in(area, kind, byte);
+    let is = byte_in(area, set.kind, byte);
     let longer = with_byte(bytes, position_in(area, byte));
     of_character(is, element, set, area, longer, byte, reader)
 }
@@ -95,10 +91,8 @@ pub(crate) fn later_byte(
 pub(crate) fn single_byte(element: Element, set: Set, byte: u8, reader: Reader) -> Answered
     ensures { result ≡ single_byte element set byte reader }
 {
-    let kind = set.kind;
-    let is = byte_in(GraphicArea::GL, kind, byte);
     of_character(
-        is,
+        byte_in(GraphicArea::GL, set.kind, byte),
         element,
         set,
         GraphicArea::GL,
@@ -108,29 +102,16 @@ pub(crate) fn single_byte(element: Element, set: Set, byte: u8, reader: Reader) 
     )
 }
 
-// A byte of GL on the ground: under 94 type 2/0 and 7/15 are SPACE and DELETE.
+// A byte of GL on the ground: under 94 type 2/0 and 7/15 are SPACE and DELETE. Its bounds stand in clauses, here and in `unicode_numbers`: a
+// type for such a byte would be taken apart at once.
 fn gl_byte(element: Element, set: Set, byte: u8, reader: Reader) -> Answered
     requires { (space ≤ byte) × (byte ≤ delete) }
     ensures { result ≡ gl_byte element set byte reader }
 {
-    let kind = set.kind;
-    match kind {
-        Kind::Of94 => {
-            if byte == SPACE {
-                return say(Answer::Space, reader);
-            }
-            if byte == DELETE {
-                return say(Answer::Delete, reader);
-            }
-            character(
-                element,
-                set,
-                GraphicArea::GL,
-                PositionBytes::One(byte),
-                reader,
-            )
-        }
-        Kind::Of96 => character(
+    match (set.kind, byte) {
+        (Kind::Of94, SPACE) => say(Answer::Space, reader),
+        (Kind::Of94, DELETE) => say(Answer::Delete, reader),
+        _ => character(
             element,
             set,
             GraphicArea::GL,
@@ -140,30 +121,15 @@ fn gl_byte(element: Element, set: Set, byte: u8, reader: Reader) -> Answered
     }
 }
 
-// A byte of GR on the ground: under 94 type 10/0 and 15/15 are refused.
+// A byte of GR on the ground: under 94 type 10/0 and 15/15 are refused. It shares the last arm with `gl_byte`, and no other.
 fn gr_byte(element: Element, set: Set, byte: u8, reader: Reader) -> Answered
     requires { bit8 + space ≤ byte }
     ensures { result ≡ gr_byte element set byte reader }
 {
-    let kind = set.kind;
     let position = byte % BIT_8;
-    match kind {
-        Kind::Of94 => {
-            if position == SPACE {
-                return refuse(Refusal::NotOfSet, byte, reader);
-            }
-            if position == DELETE {
-                return refuse(Refusal::NotOfSet, byte, reader);
-            }
-            character(
-                element,
-                set,
-                GraphicArea::GR,
-                PositionBytes::One(position),
-                reader,
-            )
-        }
-        Kind::Of96 => character(
+    match (set.kind, position) {
+        (Kind::Of94, SPACE | DELETE) => refuse(Refusal::NotOfSet, byte, reader),
+        _ => character(
             element,
             set,
             GraphicArea::GR,
@@ -173,23 +139,33 @@ fn gr_byte(element: Element, set: Set, byte: u8, reader: Reader) -> Answered
     }
 }
 
-// By the element that GL shows. An arm for each hands over its set: a set picked from the four would be copied with them.
+// The answer with an element's set. An arm for each hands over its set: a set picked from the four would be copied with them.
+fn with_set<F: FnOnce(Element, Set) -> Answered>(
+    element: Element,
+    sets: Sets,
+    answer: F,
+) -> Answered
+    requires { F.pre answer element (set_in sets element) }
+    ensures { F.post answer element (set_in sets element) result }
+{
+    match element {
+        Element::G0 => answer(Element::G0, sets.g0),
+        Element::G1 => answer(Element::G1, sets.g1),
+        Element::G2 => answer(Element::G2, sets.g2),
+        Element::G3 => answer(Element::G3, sets.g3),
+    }
+}
+
+// By the element that GL shows.
 pub(crate) fn shown_in_gl(byte: u8, reader: Reader) -> Answered
     requires { (space ≤ byte) × (byte ≤ delete) }
     ensures { result ≡ gl_byte reader.gl (set_in reader.sets reader.gl) byte reader }
 {
-    let element = reader.gl;
-    let sets = reader.sets;
-    let g0 = sets.g0;
-    let g1 = sets.g1;
-    let g2 = sets.g2;
-    let g3 = sets.g3;
-    match element {
-        Element::G0 => gl_byte(Element::G0, g0, byte, reader),
-        Element::G1 => gl_byte(Element::G1, g1, byte, reader),
-        Element::G2 => gl_byte(Element::G2, g2, byte, reader),
-        Element::G3 => gl_byte(Element::G3, g3, byte, reader),
-    }
+    with_set(
+        reader.gl,
+        reader.sets,
+        |element, set| gl_byte(element, set, byte, reader),
+    )
 }
 
 // By the element that GR shows.
@@ -197,16 +173,9 @@ pub(crate) fn shown_in_gr(byte: u8, reader: Reader) -> Answered
     requires { bit8 + space ≤ byte }
     ensures { result ≡ gr_byte reader.gr (set_in reader.sets reader.gr) byte reader }
 {
-    let element = reader.gr;
-    let sets = reader.sets;
-    let g0 = sets.g0;
-    let g1 = sets.g1;
-    let g2 = sets.g2;
-    let g3 = sets.g3;
-    match element {
-        Element::G0 => gr_byte(Element::G0, g0, byte, reader),
-        Element::G1 => gr_byte(Element::G1, g1, byte, reader),
-        Element::G2 => gr_byte(Element::G2, g2, byte, reader),
-        Element::G3 => gr_byte(Element::G3, g3, byte, reader),
-    }
+    with_set(
+        reader.gr,
+        reader.sets,
+        |element, set| gr_byte(element, set, byte, reader),
+    )
 }

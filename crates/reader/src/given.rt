@@ -11,10 +11,9 @@ use standing::standing_at;
 pub(crate) fn say(answer: Answer, reader: Reader) -> Answered
     ensures { result ≡ says answer reader }
 {
-    let next = standing_at(Standing::InStep(Within::Ground), reader);
     Answered {
-        answer: answer,
-        reader: next,
+        answer,
+        reader: standing_at(Standing::InStep(Within::Ground), reader),
     }
 }
 
@@ -22,10 +21,9 @@ pub(crate) fn say(answer: Answer, reader: Reader) -> Answered
 pub(crate) fn wait(within: Within, reader: Reader) -> Answered
     ensures { result ≡ waits within reader }
 {
-    let next = standing_at(Standing::InStep(within), reader);
     Answered {
         answer: Answer::NothingYet,
-        reader: next,
+        reader: standing_at(Standing::InStep(within), reader),
     }
 }
 
@@ -33,10 +31,9 @@ pub(crate) fn wait(within: Within, reader: Reader) -> Answered
 pub(crate) fn refuse(refusal: Refusal, byte: u8, reader: Reader) -> Answered
     ensures { result ≡ refuses refusal byte reader }
 {
-    let next = search::lost_with(byte, reader);
     Answered {
         answer: Answer::Refused(refusal),
-        reader: next,
+        reader: search::lost_with(byte, reader),
     }
 }
 
@@ -44,31 +41,16 @@ pub(crate) fn refuse(refusal: Refusal, byte: u8, reader: Reader) -> Answered
 pub(crate) fn show(shift: Shift, gl: Element, gr: Element, reader: Reader) -> Answered
     ensures { result ≡ shows shift gl gr reader }
 {
-    let form = reader.form;
-    let sets = reader.sets;
-    let gone = reader.gone;
-    let next = Reader {
-        form: form,
-        sets: sets,
-        gl: gl,
-        gr: gr,
-        gone: gone,
-        standing: Standing::InStep(Within::Ground),
-    };
-    Answered {
-        answer: Answer::Shift(shift),
-        reader: next,
-    }
+    say(Answer::Shift(shift), Reader { gl, gr, ..reader })
 }
 
 // A single shift: the next character is of this element.
 pub(crate) fn take_one(shift: Shift, element: Element, reader: Reader) -> Answered
     ensures { result ≡ takes_one shift element reader }
 {
-    let next = standing_at(Standing::InStep(Within::SingleShift(element)), reader);
     Answered {
         answer: Answer::Shift(shift),
-        reader: next,
+        reader: standing_at(Standing::InStep(Within::SingleShift(element)), reader),
     }
 }
 
@@ -76,16 +58,9 @@ pub(crate) fn take_one(shift: Shift, element: Element, reader: Reader) -> Answer
 pub(crate) fn with_sets(sets: Sets, reader: Reader) -> Reader
     ensures { result ≡ with_sets sets reader }
 {
-    let form = reader.form;
-    let gl = reader.gl;
-    let gr = reader.gr;
-    let gone = reader.gone;
     Reader {
-        form: form,
-        sets: sets,
-        gl: gl,
-        gr: gr,
-        gone: gone,
+        sets,
         standing: Standing::InStep(Within::Ground),
+        ..reader
     }
 }

@@ -24,20 +24,16 @@ pub use standing::{end_word, start};
 pub fn read(reader: Reader, byte: u8) -> Answered
     ensures { result ≡ answer_to reader byte }
 {
-    let form = reader.form;
-    let gone = reader.gone;
-    let standing = reader.standing;
     let plain = recording(0, reader);
-    match standing {
+    match reader.standing {
         Standing::InStep(within) => {
             recorded_in(
-                record_with(form, gone, byte),
+                record_with(reader.form, reader.gone, byte),
                 answer_in_step(within, byte, plain),
             )
         }
         Standing::Lost { matched, skipped } => {
-            let answered = search::answer_lost(matched, skipped, byte, plain);
-            with_record(0, answered)
+            with_record(0, search::answer_lost(matched, skipped, byte, plain))
         }
     }
 }
@@ -54,12 +50,9 @@ fn record_with(form: Form, gone: u8, byte: u8) -> u8
 fn with_record(gone: u8, answered: Answered) -> Answered
     ensures { result ≡ with_record gone answered }
 {
-    let answer = answered.answer;
-    let reader = answered.reader;
-    let next = recording(gone, reader);
     Answered {
-        answer: answer,
-        reader: next,
+        reader: recording(gone, answered.reader),
+        ..answered
     }
 }
 
@@ -67,9 +60,7 @@ fn with_record(gone: u8, answered: Answered) -> Answered
 fn recorded_in(gone: u8, answered: Answered) -> Answered
     ensures { result ≡ recorded_in gone answered }
 {
-    let reader = answered.reader;
-    let standing = reader.standing;
-    match standing {
+    match answered.reader.standing {
         Standing::InStep(_) => with_record(gone, answered),
         Standing::Lost { .. } => with_record(0, answered),
     }
@@ -80,8 +71,7 @@ fn recorded_in(gone: u8, answered: Answered) -> Answered
 fn answer_in_step(within: Within, byte: u8, reader: Reader) -> Answered
     ensures { result ≡ answer_in_step within byte reader }
 {
-    let form = reader.form;
-    if codetable::form_has(form, byte) {
+    if codetable::form_has(reader.form, byte) {
         answer_within(within, byte, reader)
     } else {
         refuse(Refusal::ByteOfEightBits, byte, reader)
@@ -95,12 +85,11 @@ fn answer_within(within: Within, byte: u8, reader: Reader) -> Answered
         Within::Ground => answer_on_ground(byte, reader),
         Within::Sequence(intermediates) => sequence::next_byte(intermediates, byte, reader),
         Within::SingleShift(element) => {
-            let sets = reader.sets;
-            character::single_byte(element, charsets::set_in(sets, element), byte, reader)
+            let set = charsets::set_in(reader.sets, element);
+            character::single_byte(element, set, byte, reader)
         }
         Within::Character(element, area, bytes) => {
-            let sets = reader.sets;
-            let set = charsets::set_in(sets, element);
+            let set = charsets::set_in(reader.sets, element);
             character::later_byte(element, set, area, bytes, byte, reader)
         }
     }

@@ -18,18 +18,15 @@ use paper::{
 pub(crate) fn c0_byte(byte: u8, reader: Reader) -> Answered
     ensures { result ≡ c0_byte byte reader }
 {
-    let gr = reader.gr;
-    let sets = reader.sets;
-    if byte == ESC {
-        return wait(Within::Sequence(Intermediates::None), reader);
+    match byte {
+        ESC => wait(Within::Sequence(Intermediates::None), reader),
+        SO => show(Shift::LS1, Element::G1, reader.gr, reader),
+        SI => show(Shift::LS0, Element::G0, reader.gr, reader),
+        _ => say(
+            Answer::Control(ControlElement::C0, reader.sets.c0, byte),
+            reader,
+        ),
     }
-    if byte == SO {
-        return show(Shift::LS1, Element::G1, gr, reader);
-    }
-    if byte == SI {
-        return show(Shift::LS0, Element::G0, gr, reader);
-    }
-    say(Answer::Control(ControlElement::C0, sets.c0, byte), reader)
 }
 
 // The C1 function that a byte of C1 is.
@@ -37,26 +34,28 @@ pub(crate) fn c1_byte(byte: u8, reader: Reader) -> Answered
     requires { bit8 ≤ byte }
     ensures { result ≡ c1_byte byte reader }
 {
-    let meaning = escapes::c1_function(byte - BIT_8);
-    mean(meaning, Intermediates::None, byte, reader)
+    mean(
+        escapes::c1_function(byte - BIT_8),
+        Intermediates::None,
+        byte,
+        reader,
+    )
 }
 
 // What a shift shows, or takes.
 fn shift(shift: Shift, reader: Reader) -> Answered
     ensures { result ≡ shifts shift reader }
 {
-    let gl = reader.gl;
-    let gr = reader.gr;
     match shift {
-        Shift::LS0 => show(Shift::LS0, Element::G0, gr, reader),
-        Shift::LS1 => show(Shift::LS1, Element::G1, gr, reader),
-        Shift::LS2 => show(Shift::LS2, Element::G2, gr, reader),
-        Shift::LS3 => show(Shift::LS3, Element::G3, gr, reader),
-        Shift::LS1R => show(Shift::LS1R, gl, Element::G1, reader),
-        Shift::LS2R => show(Shift::LS2R, gl, Element::G2, reader),
-        Shift::LS3R => show(Shift::LS3R, gl, Element::G3, reader),
-        Shift::SS2 => take_one(Shift::SS2, Element::G2, reader),
-        Shift::SS3 => take_one(Shift::SS3, Element::G3, reader),
+        Shift::LS0 => show(shift, Element::G0, reader.gr, reader),
+        Shift::LS1 => show(shift, Element::G1, reader.gr, reader),
+        Shift::LS2 => show(shift, Element::G2, reader.gr, reader),
+        Shift::LS3 => show(shift, Element::G3, reader.gr, reader),
+        Shift::LS1R => show(shift, reader.gl, Element::G1, reader),
+        Shift::LS2R => show(shift, reader.gl, Element::G2, reader),
+        Shift::LS3R => show(shift, reader.gl, Element::G3, reader),
+        Shift::SS2 => take_one(shift, Element::G2, reader),
+        Shift::SS3 => take_one(shift, Element::G3, reader),
     }
 }
 
@@ -65,12 +64,10 @@ fn shift(shift: Shift, reader: Reader) -> Answered
 fn designate_controls(element: ControlElement, last: u8, reader: Reader) -> Answered
     ensures { result ≡ means (Meaning.DesignateControls element) Intermediates.None last reader }
 {
-    let before = reader.sets;
-    let sets = charsets::designate_controls(before, element, last);
-    let next = with_sets(sets, reader);
+    let sets = charsets::designate_controls(reader.sets, element, last);
     Answered {
         answer: Answer::DesignateControls(element, last),
-        reader: next,
+        reader: with_sets(sets, reader),
     }
 }
 
@@ -78,12 +75,10 @@ fn designate_controls(element: ControlElement, last: u8, reader: Reader) -> Answ
 fn designate(element: Element, set: Set, reader: Reader) -> Answered
     ensures { result ≡ means (Meaning.Designate element set.kind set.count) Intermediates.None set.last reader }
 {
-    let before = reader.sets;
-    let sets = charsets::designate(before, element, set);
-    let next = with_sets(sets, reader);
+    let sets = charsets::designate(reader.sets, element, set);
     Answered {
         answer: Answer::Designate(element, set),
-        reader: next,
+        reader: with_sets(sets, reader),
     }
 }
 
@@ -92,23 +87,25 @@ fn designate(element: Element, set: Set, reader: Reader) -> Answered
 fn mean(meaning: Meaning, intermediates: Intermediates, byte: u8, reader: Reader) -> Answered
     ensures { result ≡ means meaning intermediates byte reader }
 {
-    let sets = reader.sets;
     match meaning {
         Meaning::NoMeaning => refuse(Refusal::WithoutMeaning, byte, reader),
         Meaning::Other => say(Answer::Other(intermediates, byte), reader),
         Meaning::Function(number) => say(
-            Answer::Control(ControlElement::C1, sets.c1, number),
+            Answer::Control(ControlElement::C1, reader.sets.c1, number),
             reader,
         ),
         Meaning::Shifts(shift_function) => shift(shift_function, reader),
         Meaning::DesignateControls(element) => designate_controls(element, byte, reader),
         Meaning::Designate(element, kind, count) => {
-            let set = Set {
-                kind: kind,
-                count: count,
-                last: byte,
-            };
-            designate(element, set, reader)
+            designate(
+                element,
+                Set {
+                    kind,
+                    count,
+                    last: byte,
+                },
+                reader,
+            )
         }
     }
 }
@@ -132,11 +129,10 @@ fn intermediate(intermediates: Intermediates, byte: u8, reader: Reader) -> Answe
 pub(crate) fn next_byte(intermediates: Intermediates, byte: u8, reader: Reader) -> Answered
     ensures { result ≡ sequence_at (sequence_byte byte) intermediates byte reader }
 {
-    let form = reader.form;
     match escapes::sequence_byte(byte) {
         SequenceByte::Intermediate => intermediate(intermediates, byte, reader),
         SequenceByte::Final => {
-            let meaning = escapes::meaning_of(form, intermediates, byte);
+            let meaning = escapes::meaning_of(reader.form, intermediates, byte);
             mean(meaning, intermediates, byte, reader)
         }
         SequenceByte::Neither => refuse(Refusal::NotOfSequence, byte, reader),

@@ -15,52 +15,36 @@ pub const LONGEST_INPUT: usize = 4096;
 
 pub const LEAST_WORK: usize = 65536;
 
-// The numbers of the paper's table.
-pub const BYTE_OF_EIGHT_BITS: u8 = 1;
+// The numbers of the paper's table, by name: an arm of a `match` takes a constant and no cast.
+const BYTE_OF_EIGHT_BITS: u8 = Refusal::ByteOfEightBits as u8;
 
-pub const NOT_OF_SEQUENCE: u8 = 2;
+const NOT_OF_SEQUENCE: u8 = Refusal::NotOfSequence as u8;
 
-pub const THIRD_INTERMEDIATE: u8 = 3;
+const THIRD_INTERMEDIATE: u8 = Refusal::ThirdIntermediate as u8;
 
-pub const WITHOUT_MEANING: u8 = 4;
+const WITHOUT_MEANING: u8 = Refusal::WithoutMeaning as u8;
 
-pub const NOT_OF_SET: u8 = 5;
+const NOT_OF_SET: u8 = Refusal::NotOfSet as u8;
 
-pub const ANOTHER_AREA: u8 = 6;
+const ANOTHER_AREA: u8 = Refusal::AnotherArea as u8;
 
-pub const ENDS_INSIDE: u8 = 7;
+const ENDS_INSIDE: u8 = Refusal::EndsInside as u8;
 
-const TOO_LONG: u8 = 8;
+const TOO_LONG: u8 = Refusal::TooLong as u8;
 
-const BUFFER_SHORT: u8 = 9;
+const BUFFER_SHORT: u8 = Refusal::BufferShort as u8;
 
-const NO_NUMBER: u8 = 10;
+const NO_NUMBER: u8 = Refusal::NoNumber as u8;
 
-const NOT_MAPPED: u8 = 11;
+const NOT_MAPPED: u8 = Refusal::NotMapped as u8;
 
-const INPUT_TOO_LONG: u8 = 13;
-
-const WORK_BUFFER_SHORT: u8 = 14;
+const INPUT_TOO_LONG: u8 = Refusal::InputTooLong as u8;
 
 // The number of a refusal in the paper's table.
 pub fn number_of(refusal: Refusal) -> usize
     ensures { result ≡ number_of refusal }
 {
-    match refusal {
-        Refusal::ByteOfEightBits => BYTE_OF_EIGHT_BITS as usize,
-        Refusal::NotOfSequence => NOT_OF_SEQUENCE as usize,
-        Refusal::ThirdIntermediate => THIRD_INTERMEDIATE as usize,
-        Refusal::WithoutMeaning => WITHOUT_MEANING as usize,
-        Refusal::NotOfSet => NOT_OF_SET as usize,
-        Refusal::AnotherArea => ANOTHER_AREA as usize,
-        Refusal::EndsInside => ENDS_INSIDE as usize,
-        Refusal::TooLong => TOO_LONG as usize,
-        Refusal::BufferShort => BUFFER_SHORT as usize,
-        Refusal::NoNumber => NO_NUMBER as usize,
-        Refusal::NotMapped => NOT_MAPPED as usize,
-        Refusal::InputTooLong => INPUT_TOO_LONG as usize,
-        Refusal::WorkBufferShort => WORK_BUFFER_SHORT as usize,
-    }
+    usize::from(refusal)
 }
 
 // The refusal that has a number; any other number gives the last.

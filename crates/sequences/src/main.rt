@@ -7,124 +7,37 @@
 // line, so a difference at any of them shows.
 #![tactic(auto)]
 
-use paper::{ControlElement, Element, Form, Intermediates, Meaning, SequenceByte, Shift};
+use paper::{Form, Intermediates, Meaning, SequenceByte};
 use std::io;
-
-// A meaning in four numbers.
-#[derive(Clone, Copy)]
-struct Said {
-    word: u8,
-    first: u8,
-    second: u8,
-    third: u8,
-}
-
-const CONTROL: u8 = 4;
-
-const DESIGNATE: u8 = 5;
-
-const SHIFT: u8 = 6;
-
-const OTHER: u8 = 7;
-
-const REFUSED: u8 = 8;
-
-// No meaning is refusal 4, and the size of a control set is 32.
-const WITHOUT_MEANING: u8 = 4;
-
-const SIZE_OF_CONTROLS: u8 = 32;
-
-fn shift_number(shift: Shift) -> u8 {
-    match shift {
-        Shift::LS0 => 0,
-        Shift::LS1 => 1,
-        Shift::LS2 => 2,
-        Shift::LS3 => 3,
-        Shift::LS1R => 4,
-        Shift::LS2R => 5,
-        Shift::LS3R => 6,
-        Shift::SS2 => 7,
-        Shift::SS3 => 8,
-    }
-}
-
-fn element_number(element: Element) -> u8 {
-    match element {
-        Element::G0 => 2,
-        Element::G1 => 3,
-        Element::G2 => 4,
-        Element::G3 => 5,
-    }
-}
-
-fn answered(word: u8, first: u8, second: u8, third: u8) -> Said {
-    Said {
-        word: word,
-        first: first,
-        second: second,
-        third: third,
-    }
-}
-
-fn answered_by(meaning: Meaning) -> Said {
-    match meaning {
-        Meaning::NoMeaning => answered(REFUSED, WITHOUT_MEANING, 0, 0),
-        Meaning::Other => answered(OTHER, 0, 0, 0),
-        Meaning::Function(number) => answered(CONTROL, number, 0, 0),
-        Meaning::Shifts(shift) => answered(SHIFT, shift_number(shift), 0, 0),
-        Meaning::DesignateControls(element) => match element {
-            ControlElement::C0 => answered(DESIGNATE, 0, SIZE_OF_CONTROLS, 1),
-            ControlElement::C1 => answered(DESIGNATE, 1, SIZE_OF_CONTROLS, 1),
-        },
-        Meaning::Designate(element, kind, count) => {
-            answered(
-                DESIGNATE,
-                element_number(element),
-                charsets::size_of(kind),
-                charsets::bytes_of(count),
-            )
-        }
-    }
-}
-
-fn same(a: Said, b: Said) -> bool {
-    if a.word == b.word {
-        if a.first == b.first {
-            if a.second == b.second {
-                return a.third == b.third;
-            }
-        }
-    }
-    false
-}
-
-fn print_byte(rt: &impl Print, byte: u8) -> io::Result<()> {
-    print!(rt; " {byte:02x}")
-}
-
-fn print_value(rt: &impl Print, value: u8) -> io::Result<()> {
-    print!(rt; " {value}")
-}
-
-fn print_form(rt: &impl Print, form: Form) -> io::Result<()> {
-    match form {
-        Form::Seven => rt.write_all(b"7"),
-        Form::Eight => rt.write_all(b"8"),
-    }
-}
 
 fn print_intermediates(rt: &impl Print, intermediates: Intermediates) -> io::Result<()> {
     match intermediates {
         Intermediates::None => Ok(()),
-        Intermediates::One(first) => print_byte(rt, first),
-        Intermediates::Two(first, second) => {
-            print_byte(rt, first)?;
-            print_byte(rt, second)
-        }
+        Intermediates::One(first) => print!(rt; " {first:02x}"),
+        Intermediates::Two(first, second) => print!(rt; " {first:02x} {second:02x}"),
     }
 }
 
-// The line of the finals from one to another.
+// In four numbers. Elements and shifts are numbered in the order of their lists in `paper`.
+fn print_meaning(rt: &impl Print, meaning: Meaning) -> io::Result<()> {
+    match meaning {
+        Meaning::Function(number) => print!(rt; " 4 {number} 0 0"),
+        Meaning::DesignateControls(element) => print!(rt; " 5 {} 32 1", element as u8),
+        Meaning::Designate(element, kind, count) => {
+            print!(rt;
+                " 5 {} {} {}",
+                element as u8 + 2,
+                charsets::size_of(kind),
+                charsets::bytes_of(count)
+            )
+        }
+        Meaning::Shifts(shift) => print!(rt; " 6 {} 0 0", shift as u8),
+        Meaning::Other => print!(rt; " 7 0 0 0"),
+        Meaning::NoMeaning => print!(rt; " 8 4 0 0"),
+    }
+}
+
+// The line of the finals from one to another, which mean the same.
 fn print_finals(
     rt: &impl Print,
     form: Form,
@@ -132,31 +45,20 @@ fn print_finals(
     from: u8,
     to: u8,
 ) -> io::Result<()> {
-    print_form(rt, form)?;
+    print!(rt; "{}", desk::digit_of(form))?;
     print_intermediates(rt, intermediates)?;
-    print_byte(rt, from)?;
-    print_byte(rt, to)?;
-    let answer = answered_by(escapes::meaning_of(form, intermediates, from));
-    print_value(rt, answer.word)?;
-    print_value(rt, answer.first)?;
-    print_value(rt, answer.second)?;
-    print_value(rt, answer.third)?;
-    rt.write_all(b"\n")
-}
-
-// Whether two finals mean the same.
-fn alike(form: Form, intermediates: Intermediates, one: u8, other: u8) -> bool {
-    same(
-        answered_by(escapes::meaning_of(form, intermediates, one)),
-        answered_by(escapes::meaning_of(form, intermediates, other)),
-    )
+    print!(rt; " {from:02x} {to:02x}")?;
+    print_meaning(rt, escapes::meaning_of(form, intermediates, from))?;
+    println!(rt)
 }
 
 // Every final after these intermediates, 3/0 to 7/14.
 fn finals(rt: &impl Print, form: Form, intermediates: Intermediates) -> io::Result<()> {
     let mut from: u8 = 0x30;
     for last in 0x31u8..0x7F {
-        if !alike(form, intermediates, from, last) {
+        if escapes::meaning_of(form, intermediates, from)
+            != escapes::meaning_of(form, intermediates, last)
+        {
             print_finals(rt, form, intermediates, from, last - 1)?;
             from = last;
         }
@@ -164,44 +66,32 @@ fn finals(rt: &impl Print, form: Form, intermediates: Intermediates) -> io::Resu
     print_finals(rt, form, intermediates, from, 0x7E)
 }
 
-// Every second intermediate after a first.
-fn seconds(rt: &impl Print, form: Form, first: u8) -> io::Result<()> {
-    for second in 0x20u8..0x30 {
-        finals(rt, form, Intermediates::Two(first, second))?;
-    }
-    Ok(())
-}
-
 // Every sequence of a form.
 fn sequences(rt: &impl Print, form: Form) -> io::Result<()> {
     finals(rt, form, Intermediates::None)?;
     for first in 0x20u8..0x30 {
         finals(rt, form, Intermediates::One(first))?;
-        seconds(rt, form, first)?;
+        for second in 0x20u8..0x30 {
+            finals(rt, form, Intermediates::Two(first, second))?;
+        }
     }
     Ok(())
 }
 
 // What a byte is inside a sequence.
-fn print_inside(rt: &impl Print, byte: u8) -> io::Result<()> {
-    rt.write_all(b"byte")?;
-    print_byte(rt, byte)?;
+fn inside(byte: u8) -> &'static str {
     match escapes::sequence_byte(byte) {
-        SequenceByte::Intermediate => rt.write_all(b" intermediate\n"),
-        SequenceByte::Final => rt.write_all(b" final\n"),
-        SequenceByte::Neither => rt.write_all(b" neither\n"),
+        SequenceByte::Intermediate => "intermediate",
+        SequenceByte::Final => "final",
+        SequenceByte::Neither => "neither",
     }
-}
-
-fn bytes(rt: &impl Print) -> io::Result<()> {
-    for byte in 0u8..=255 {
-        print_inside(rt, byte)?;
-    }
-    Ok(())
 }
 
 fn main(rt: HostRuntime) -> io::Result<()> {
-    bytes(&rt)?;
+    for byte in 0u8..=255 {
+        let is = inside(byte);
+        println!(rt; "byte {byte:02x} {is}")?;
+    }
     sequences(&rt, Form::Seven)?;
     sequences(&rt, Form::Eight)
 }

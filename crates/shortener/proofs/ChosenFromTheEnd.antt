@@ -6,18 +6,18 @@ use native.Mathlib.Omega.{arith}
 use lib.ListN.{length, get_or, set, take, drop, take-append-drop}
 use lib.Seq.{take-suc, length-take-le, set_at, get_or_at, append_snoc, slice, slice-cons, slice_empty, length-slice}
 use Rattle.paper.specs.declared.Element.{Element}
-use Rattle.paper.specs.declared.Element.TheVariants.{G0, G1, G2, G3}
-use Rattle.shortener.specs.Fours.{of_four, four_of, AtMost}
-use Rattle.shortener.specs.Choices.{costs_with, choices_with, costs_by, choices_by}
-use Rattle.shortener.specs.declared.four.Four.{Four}
-use Rattle.shortener.proofs.SmallNumbers.{small_costs}
-use Rattle.shortener.proofs.OneTurn.{same_four}
+use Rattle.shortener.specs.ByElements.{at_element, by_element, AtMost}
+use Rattle.shortener.specs.Codes.{unpacked}
+use Rattle.shortener.specs.Choices.{costs_with, choices_with, packed_choices, costs_by, choices_by}
+use Rattle.shortener.specs.declared.by_element.ByElement.{ByElement}
+use Rattle.shortener.proofs.CodesAsBytes.{same_each}
+use Rattle.shortener.proofs.SmallCosts.{small_costs}
 
 abbrev pub chosen_from : ℕ → ℕ → List ℕ → List ℕ
 chosen_from left count codes = take left codes ++ (choices_by (slice left count codes) ++ drop count codes)
 
-abbrev pub cost_from : ℕ → ℕ → List ℕ → Four
-cost_from left count codes = four_of (costs_by (slice left count codes))
+abbrev pub cost_from : ℕ → ℕ → List ℕ → ByElement ℕ
+cost_from left count codes = by_element (costs_by (slice left count codes))
 
 -- ---- the first of them and the last
 
@@ -25,25 +25,22 @@ pub none_chosen : (count : ℕ) (codes : List ℕ) → codes ≡ chosen_from cou
 unfolding choices_by
 none_chosen count codes = rw (slice_empty count codes) (sym (take-append-drop count codes))
 
-pub none_costs : (count : ℕ) (codes : List ℕ) → four_of (λ e. 0) ≡ cost_from count count codes
+pub none_costs : (count : ℕ) (codes : List ℕ) → by_element (λ e. 0) ≡ cost_from count count codes
 unfolding costs_by
 none_costs count codes = rw (slice_empty count codes)
 
-pub small_from : (left count : ℕ) (codes : List ℕ) (later : Four) → later ≡ cost_from left count codes → count ≤ length codes → count ≤ 4096 →
+pub small_from : (left count : ℕ) (codes : List ℕ) (later : ByElement ℕ) → later ≡ cost_from left count codes → count ≤ length codes → count ≤ 4096 →
     AtMost 0x100000000 later
 small_from left count codes later is inside few =
     let l : List ℕ = slice left count codes in
     let n : length l ≡ count - left = length-slice left count codes inside in
-    let h = small_costs l in
-    let h0 = h G0 in
-    let h1 = h G1 in
-    let h2 = h G2 in
-    let h3 = h G3 in
-    subst (AtMost 0x100000000) (sym is) (record { g0 = omega arith; g1 = omega arith; g2 = omega arith; g3 = omega arith })
+    let small : (e : Element) → at_element (cost_from left count codes) e ≤ 0x100000000 =
+    λ e. subst (λ (c : Element → ℕ). c e ≤ 0x100000000) (sym (same_each (costs_by l))) (omega (arith, small_costs l e)) in
+    subst (AtMost 0x100000000) (sym is) (record { each = small })
 
 -- ---- one more
 
-module _ (n count : ℕ) (codes work : List ℕ) (later : Four) (before : n < count) (inside : count ≤ length codes)
+module _ (n count : ℕ) (codes work : List ℕ) (later : ByElement ℕ) (before : n < count) (inside : count ≤ length codes)
     (so_far : work ≡ chosen_from (suc n) count codes) (after : later ≡ cost_from (suc n) count codes) where
   abbrev rest : List ℕ
   rest = choices_by (slice (suc n) count codes) ++ drop count codes
@@ -64,23 +61,25 @@ module _ (n count : ℕ) (codes work : List ℕ) (later : Four) (before : n < co
   code_is : get_or work n 0 ≡ code
   code_is = ap (λ (l : List ℕ). get_or l n 0) work_is ∙ get_or_at (take n codes) code rest 0 n here
 
-  costs_are : of_four later ≡ costs_by (slice (suc n) count codes)
-  costs_are = ap of_four after ∙ same_four (costs_by (slice (suc n) count codes))
+  costs_are : at_element later ≡ costs_by (slice (suc n) count codes)
+  costs_are = ap at_element after ∙ same_each (costs_by (slice (suc n) count codes))
 
-  pub one_chosen : (choices : ℕ) → choices ≡ choices_with (get_or work n 0) (of_four later) → set work n choices ≡ chosen_from n count codes
+  pub one_chosen : (choices : ℕ) → choices ≡ packed_choices (choices_with (unpacked (get_or work n 0)) (at_element later)) →
+      set work n choices ≡ chosen_from n count codes
   unfolding choices_by
   one_chosen choices is =
-      let choices_are : choices ≡ choices_with code (costs_by (slice (suc n) count codes)) =
-      is ∙ ap (λ (k : ℕ). choices_with k (of_four later)) code_is ∙ ap (λ (f : Element → ℕ). choices_with code f) costs_are in
+      let choices_are : choices ≡ packed_choices (choices_with (unpacked code) (costs_by (slice (suc n) count codes))) =
+      is ∙ ap (λ (k : ℕ). packed_choices (choices_with (unpacked k) (at_element later))) code_is ∙
+      ap (λ (f : Element → ℕ). packed_choices (choices_with (unpacked code) f)) costs_are in
       ap (λ (l : List ℕ). set l n choices) work_is ∙
       set_at (take n codes) code rest choices n here ∙
       ap (λ (k : ℕ). take n codes ++ (k ∷ rest)) choices_are ∙
       ap (λ (l : List ℕ). take n codes ++ (choices_by l ++ drop count codes)) (sym one_more_lem)
 
-  pub one_costs : (costs : Four) → costs ≡ four_of (costs_with (get_or work n 0) (of_four later)) → costs ≡ cost_from n count codes
+  pub one_costs : (costs : ByElement ℕ) → costs ≡ by_element (costs_with (unpacked (get_or work n 0)) (at_element later)) → costs ≡ cost_from n count codes
   unfolding costs_by
   one_costs costs is =
       is ∙
-      ap (λ (k : ℕ). four_of (costs_with k (of_four later))) code_is ∙
-      ap (λ (f : Element → ℕ). four_of (costs_with code f)) costs_are ∙
-      ap (λ (l : List ℕ). four_of (costs_by l)) (sym one_more_lem)
+      ap (λ (k : ℕ). by_element (costs_with (unpacked k) (at_element later))) code_is ∙
+      ap (λ (f : Element → ℕ). by_element (costs_with (unpacked code) f)) costs_are ∙
+      ap (λ (l : List ℕ). by_element (costs_by l)) (sym one_more_lem)

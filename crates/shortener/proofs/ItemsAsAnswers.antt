@@ -1,5 +1,5 @@
 -- The code of an item, and its bytes by what GL shows, are those of the answer that it says.
-use Prim.Native.Nat.{ℕ, ◌+◌, ◌-◌, ◌*◌, ◌%◌, ◌<◌, ◌≤◌}
+use Prim.Native.Nat.{ℕ, ◌+◌, ◌-◌, ◌%◌, ◌<◌, ◌≤◌}
 use mathlib.Core.Path.{◌≡◌, refl, sym, ap, ◌∙◌}
 use mathlib.Core.Bool.{false}
 use mathlib.Core.List.{List, [], ◌∷◌, map}
@@ -26,22 +26,24 @@ use Rattle.paper.proofs.Choices.{impossible}
 use Rattle.paper.proofs.WhatCanBeWritten.{CanBeWritten}
 use Rattle.charsets.specs.Sizes.{kind_of}
 use Rattle.escapes.specs.declared.effect.Effect.{Effect}
+use Rattle.escapes.specs.Effects.{word_number}
 use Rattle.items.specs.Pieces.{bytes_in, Small}
 use Rattle.items.specs.States.{size_in}
 use Rattle.items.specs.declared.piece.Piece.{Piece}
 use Rattle.items.proofs.BytesInANumber.{length_of_bytes}
 use Rattle.items.proofs.ItemsByBytes.{said_bytes, Said}
 use Rattle.shortest.specs.ShortestText.{bytes_under, rank}
-use Rattle.shortener.specs.Fours.{index_of, index_at}
-use Rattle.shortener.specs.Codes.{place_of_rank, space_or_delete_code, alike_code, code_of}
+use Rattle.shortener.specs.declared.code.Code.{Code}
+use Rattle.shortener.specs.ByElements.{by_element, element_of}
+use Rattle.shortener.specs.Codes.{place_of_rank, code_of}
 use Rattle.shortener.specs.Under.{control_in_seven, alike, character_under, under, alike_code_of, code_by, Fit}
 
-index_of_number : (e : Element) → index_at (element_number e) ≡ index_of e
-unfolding index_at
-index_of_number G0 = refl
-index_of_number G1 = refl
-index_of_number G2 = refl
-index_of_number G3 = refl
+element_back : (e : Element) → element_of (element_number e) ≡ e
+unfolding element_of
+element_back G0 = refl
+element_back G1 = refl
+element_back G2 = refl
+element_back G3 = refl
 
 -- ---- what is written alike
 
@@ -58,10 +60,10 @@ control_of_c1 n =
 module _ (x : Effect) (bytes : List ℕ) where
   -- the item says this answer
   abbrev Says : Answer → Type 0
-  Says a = (x.word.0 ≡ word_of a) × (bytes ≡ said_bytes a) × Said a x.value
+  Says a = (word_number x.word ≡ word_of a) × (bytes ≡ said_bytes a) × Said a x.value
 
   abbrev Alike : Answer → Type 0
-  Alike a = alike x.word.0 bytes ≡ bytes_of_answer Form.Seven a
+  Alike a = alike (word_number x.word) bytes ≡ bytes_of_answer Form.Seven a
 
   control_alike : (w : ControlElement) (f n : ℕ) → Says (Answer.Control w f n) → Alike (Answer.Control w f n)
   unfolding alike
@@ -82,9 +84,9 @@ module _ (x : Effect) (bytes : List ℕ) where
 
 -- ---- the code
 
-alike_code_lem : (x : Effect) (bytes written : List ℕ) → alike x.word.0 bytes ≡ written →
-    alike_code_of x.word.0 bytes ≡ alike_code (place_of_rank (rank written)) (length written)
-alike_code_lem x bytes written is = ap (λ (l : List ℕ). alike_code (place_of_rank (rank l)) (length l)) is
+alike_code_lem : (x : Effect) (bytes written : List ℕ) → alike (word_number x.word) bytes ≡ written →
+    alike_code_of (word_number x.word) bytes ≡ Code.Alike (place_of_rank (rank written)) (length written)
+alike_code_lem x bytes written is = ap (λ (l : List ℕ). Code.Alike (place_of_rank (rank l)) (length l)) is
 
 position_count : (p : PositionBytes) → length (position_values p) ≡ bytes_so_far p
 position_count (PositionBytes.One a) = refl
@@ -97,15 +99,15 @@ module _
     (kinds : (e : Element) → kind_of (size_in cells (element_number e)) ≡ (set_in t e).kind)
     (x : Effect)
     (bytes : List ℕ) where
-  pub code_said : (a : Answer) → left_out a ≡ false → CanBeWritten t a → (x.word.0 ≡ word_of a) → (bytes ≡ said_bytes a) → Said a x.value →
+  pub code_said : (a : Answer) → left_out a ≡ false → CanBeWritten t a → (word_number x.word ≡ word_of a) → (bytes ≡ said_bytes a) → Said a x.value →
       code_by cells x bytes ≡ code_of t a
   unfolding code_by
   code_said Answer.NothingYet stays can word are said = impossible (cc)
   code_said (Answer.Char e y p) stays can word are said =
-      rw (word, are, said) (ap (λ (n : ℕ). 16 * n + length (position_values p)) (index_of_number e) ∙
-      ap (λ (n : ℕ). 16 * index_of e + n) (position_count p))
-  code_said Answer.Space stays can word are said = rw word (ap space_or_delete_code (λ i e. kinds e i))
-  code_said Answer.Delete stays can word are said = rw word (ap space_or_delete_code (λ i e. kinds e i))
+      rw (word, are, said) (ap (λ (g : Element). Code.Character g (length (position_values p))) (element_back e) ∙
+      ap (λ (n : ℕ). Code.Character e n) (position_count p))
+  code_said Answer.Space stays can word are said = rw word (λ i. Code.SpaceOrDelete (by_element (λ e. kinds e i)))
+  code_said Answer.Delete stays can word are said = rw word (λ i. Code.SpaceOrDelete (by_element (λ e. kinds e i)))
   code_said (Answer.Control w f n) stays can word are said =
       rw word (sym (ap (λ (k : ℕ). alike_code_of k bytes) word) ∙ alike_code_lem x bytes _ (control_alike x bytes w f n (word, are, said)))
   code_said (Answer.DesignateControls w f) stays can word are said =
@@ -127,8 +129,7 @@ of_gl (PositionBytes.Two a b) = refl
 of_gl (PositionBytes.Three a b c) = refl
 
 character_said : (own gl : Element) (y : Set) (p : PositionBytes) →
-    character_under (index_of gl) (index_of own) (map (byte_from GraphicArea.GL) (position_values p)) ≡ bytes_under gl (Answer.Char own y p)
-unfolding character_under
+    character_under gl own (map (byte_from GraphicArea.GL) (position_values p)) ≡ bytes_under gl (Answer.Char own y p)
 character_said G0 G0 y p = refl
 character_said G0 G1 y p = refl
 character_said G0 G2 y p = refl
@@ -147,12 +148,12 @@ character_said G3 G2 y p = refl
 character_said G3 G3 y p = refl
 
 pub bytes_said : (t : Sets) (x : Effect) (bytes : List ℕ) (gl : Element) (a : Answer) → left_out a ≡ false → CanBeWritten t a →
-    (x.word.0 ≡ word_of a) → (bytes ≡ said_bytes a) → Said a x.value → under (index_of gl) x bytes ≡ bytes_under gl a
+    (word_number x.word ≡ word_of a) → (bytes ≡ said_bytes a) → Said a x.value → under gl x bytes ≡ bytes_under gl a
 unfolding under alike
 bytes_said t x bytes gl Answer.NothingYet stays can word are said = impossible (cc)
 bytes_said t x bytes gl (Answer.Char e y p) stays can word are said =
-    rw (word, are, said) (ap (λ (n : ℕ). character_under (index_of gl) n (position_values p)) (index_of_number e) ∙
-    ap (character_under (index_of gl) (index_of e)) (of_gl p) ∙ character_said e gl y p)
+    rw (word, are, said) (ap (λ (g : Element). character_under gl g (position_values p)) (element_back e) ∙
+    ap (character_under gl e) (of_gl p) ∙ character_said e gl y p)
 bytes_said t x bytes gl Answer.Space stays can word are said = rw (word, are)
 bytes_said t x bytes gl Answer.Delete stays can word are said = rw (word, are)
 bytes_said t x bytes gl (Answer.Control w f n) stays can word are said =
@@ -200,7 +201,7 @@ counts (Answer.Refused r) t stays can = absurd can
 counts Answer.Skipped t stays can = absurd can
 counts (Answer.InStep n) t stays can = absurd can
 
-pub fit_said : (t : Sets) (x : Effect) (p : Piece) (a : Answer) → left_out a ≡ false → CanBeWritten t a → x.word.0 ≡ word_of a →
+pub fit_said : (t : Sets) (x : Effect) (p : Piece) (a : Answer) → left_out a ≡ false → CanBeWritten t a → word_number x.word ≡ word_of a →
     bytes_in p ≡ said_bytes a → Small p → Fit x p
 fit_said t x p a stays can word are small =
     let long : p.count ≡ length (said_bytes a) = sym (length_of_bytes p) ∙ ap length are in

@@ -1,5 +1,5 @@
-pub mod SmallNumbers
-pub mod OneTurn
+pub mod CodesAsBytes
+pub mod SmallCosts
 pub mod ChosenFromTheEnd
 pub mod CodesTell
 pub mod WaysGoOn

@@ -11,7 +11,7 @@ use Rattle.paper.specs.LentBuffers.{over}
 use Rattle.paper.specs.WrittenForms.{left_out, sequence_of, sets_with}
 use Rattle.paper.specs.declared.Form.{Form}
 use Rattle.paper.specs.declared.Element.{Element}
-use Rattle.paper.specs.declared.Element.TheVariants.{G0, G1, G2, G3}
+use Rattle.paper.specs.declared.Element.TheVariants.{G0}
 use Rattle.paper.specs.declared.Sets.{Sets}
 use Rattle.paper.specs.declared.Answer.{Answer}
 use Rattle.paper.proofs.WhatCanBeWritten.{CanBeWritten, Steps, said, opened}
@@ -19,48 +19,27 @@ use Rattle.items.specs.States.{starting_cells}
 use Rattle.items.proofs.OverTheBuffer.{length_over, over_more}
 use Rattle.shortest.specs.ShortestText.{steps_of, bytes_under, shift_from, chosen, costs, shortest_from}
 use Rattle.shortest.specs.Shortening.{shortest_text}
-use Rattle.shortener.specs.Fours.{index_of}
-use Rattle.shortener.specs.Codes.{of_opening, code_of, codes_of}
-use Rattle.shortener.specs.Choices.{choices_with, costs_by, choices_by, choice_in}
-use Rattle.shortener.specs.Under.{led_by}
+use Rattle.shortener.specs.declared.code.Code.{Code}
+use Rattle.shortener.specs.Codes.{packed, unpacked, code_of, codes_of}
+use Rattle.shortener.specs.Choices.{choices_with, packed_choices, costs_by, choices_by, choice_in}
 use Rattle.shortener.specs.Going.{Going}
 use Rattle.shortener.specs.Putting.{Putting}
 use Rattle.shortener.specs.declared.put.Written.{Written}
 use Rattle.shortener.proofs.StepsByItems.{no_step_left}
 use Rattle.shortener.proofs.CodesTell.{choice_told}
 
--- what leads an answer
-pub led_is : (gl e : Element) (bytes : List ℕ) → led_by (index_of gl) (index_of e) bytes ≡ shift_from gl e ++ bytes
-unfolding led_by
-led_is G0 G0 bytes = refl
-led_is G0 G1 bytes = refl
-led_is G0 G2 bytes = refl
-led_is G0 G3 bytes = refl
-led_is G1 G0 bytes = refl
-led_is G1 G1 bytes = refl
-led_is G1 G2 bytes = refl
-led_is G1 G3 bytes = refl
-led_is G2 G0 bytes = refl
-led_is G2 G1 bytes = refl
-led_is G2 G2 bytes = refl
-led_is G2 G3 bytes = refl
-led_is G3 G0 bytes = refl
-led_is G3 G1 bytes = refl
-led_is G3 G2 bytes = refl
-led_is G3 G3 bytes = refl
-
 module _ {m : Form} {text lent work cells : List ℕ} {v : Written} {buffer : List ℕ} (p : Putting m text lent work cells v buffer) where
   -- the buffer is as long as it was lent
   so_far_fits : length p.so_far ≤ length lent
   so_far_fits =
-      omega (arith, ap length p.whole, length-append p.so_far (shortest_from p.steps p.sets p.gl), p.room)
+      omega (arith, ap length p.whole, length-append p.so_far (shortest_from p.steps p.sets v.shown), p.room)
 
   pub buffer_long : length buffer ≡ length lent
   buffer_long = ap length p.wrote ∙ length_over p.so_far lent so_far_fits
 
   -- what is written next, and what is left after it
   module _ (bytes : List ℕ) (then : Steps) (u : Sets) (e : Element)
-      (is : shortest_from p.steps p.sets p.gl ≡ bytes ++ shortest_from then u e) where
+      (is : shortest_from p.steps p.sets v.shown ≡ bytes ++ shortest_from then u e) where
     pub fits_here : v.at + length bytes ≤ length lent
     fits_here =
         omega (
@@ -68,7 +47,7 @@ module _ {m : Form} {text lent work cells : List ℕ} {v : Written} {buffer : Li
           p.at_is,
           ap length p.whole,
           ap length is,
-          length-append p.so_far (shortest_from p.steps p.sets p.gl),
+          length-append p.so_far (shortest_from p.steps p.sets v.shown),
           length-append bytes (shortest_from then u e),
           p.room,
         )
@@ -86,13 +65,11 @@ module _ {m : Form} {text lent work cells : List ℕ} {v : Written} {buffer : Li
     -- a unit more
     pub unit_put : (choice : ℕ) → choices_by (codes_of p.steps p.sets) ≡ choice ∷ choices_by (codes_of then u) →
         (next : ℕ) (known after_it : List ℕ) → v.place < next → Going m text known next then u → after_it ≡ sets buffer v.at bytes →
-        Putting m text lent work known (record { place = next; unit = v.unit + 1; at = v.at + length bytes; shown = index_of e }) after_it
+        Putting m text lent work known (record { place = next; unit = v.unit + 1; at = v.at + length bytes; shown = e }) after_it
     unit_put choice codes next known after_it onward going stored = record {
       steps = then;
       sets = u;
       going = going;
-      gl = e;
-      shown_is = refl;
       front = p.front ++ (choice ∷ []);
       rest = p.rest;
       choices = p.choices ∙ ap (λ (l : List ℕ). p.front ++ (l ++ p.rest)) codes ∙
@@ -109,12 +86,14 @@ module _ {m : Form} {text lent work cells : List ℕ} {v : Written} {buffer : Li
   -- ---- an opening
 
   opening_first : (then : Steps) → p.steps ≡ opened then →
-      shortest_from p.steps p.sets p.gl ≡ opening Form.Seven ++ shortest_from then starting_sets G0
+      shortest_from p.steps p.sets v.shown ≡ opening Form.Seven ++ shortest_from then starting_sets G0
   unfolding shortest_from
-  opening_first then is = ap (λ (s : Steps). shortest_from s p.sets p.gl) is
+  opening_first then is = ap (λ (s : Steps). shortest_from s p.sets v.shown) is
 
   opening_choice : (then : Steps) → p.steps ≡ opened then →
-      choices_by (codes_of p.steps p.sets) ≡ choices_with of_opening (costs_by (codes_of then starting_sets)) ∷ choices_by (codes_of then starting_sets)
+      choices_by (codes_of p.steps p.sets) ≡
+      packed_choices (choices_with (unpacked (packed Code.Opening)) (costs_by (codes_of then starting_sets))) ∷
+      choices_by (codes_of then starting_sets)
   unfolding choices_by
   opening_choice then is = ap (λ (s : Steps). choices_by (codes_of s p.sets)) is
 
@@ -125,7 +104,7 @@ module _ {m : Form} {text lent work cells : List ℕ} {v : Written} {buffer : Li
       Going m text known next then starting_sets →
       after_it ≡ sets buffer v.at (opening Form.Seven) →
       Putting m text lent work known
-      (record { place = next; unit = v.unit + 1; at = v.at + length (opening Form.Seven); shown = index_of G0 }) after_it
+      (record { place = next; unit = v.unit + 1; at = v.at + length (opening Form.Seven); shown = G0 }) after_it
   opening_put_lem then is next known after_it onward going stored =
       unit_put (opening Form.Seven) then starting_sets G0 (opening_first then is) _ (opening_choice then is) next known after_it onward going stored
 
@@ -133,19 +112,19 @@ module _ {m : Form} {text lent work cells : List ℕ} {v : Written} {buffer : Li
 
   module _ (x : Answer) (then : Steps) (is : p.steps ≡ said x then) (stays : left_out x ≡ false) (can : CanBeWritten p.sets x) where
     abbrev pub to_show : Element
-    to_show = chosen (costs x then p.sets) p.gl (bytes_under p.gl x)
+    to_show = chosen (costs x then p.sets) v.shown (bytes_under v.shown x)
 
     abbrev pub answer_bytes : List ℕ
-    answer_bytes = shift_from p.gl to_show ++ bytes_under to_show x
+    answer_bytes = shift_from v.shown to_show ++ bytes_under to_show x
 
-    answer_first : shortest_from p.steps p.sets p.gl ≡ answer_bytes ++ shortest_from then (sets_with p.sets x) to_show
+    answer_first : shortest_from p.steps p.sets v.shown ≡ answer_bytes ++ shortest_from then (sets_with p.sets x) to_show
     unfolding shortest_from
     answer_first =
-        ap (λ (s : Steps). shortest_from s p.sets p.gl) is ∙
-        sym (append_assoc (shift_from p.gl to_show) (bytes_under to_show x) (shortest_from then (sets_with p.sets x) to_show))
+        ap (λ (s : Steps). shortest_from s p.sets v.shown) is ∙
+        sym (append_assoc (shift_from v.shown to_show) (bytes_under to_show x) (shortest_from then (sets_with p.sets x) to_show))
 
     abbrev choice : ℕ
-    choice = choices_with (code_of p.sets x) (costs_by (codes_of then (sets_with p.sets x)))
+    choice = packed_choices (choices_with (unpacked (packed (code_of p.sets x))) (costs_by (codes_of then (sets_with p.sets x))))
 
     answer_choice : choices_by (codes_of p.steps p.sets) ≡ choice ∷ choices_by (codes_of then (sets_with p.sets x))
     unfolding choices_by
@@ -164,12 +143,12 @@ module _ {m : Form} {text lent work cells : List ℕ} {v : Written} {buffer : Li
           p.counted,
         )
 
-    pub choice_here : choice_in (get_or work v.unit 0) v.shown ≡ index_of to_show
+    pub choice_here : choice_in (get_or work v.unit 0) v.shown ≡ to_show
     choice_here =
         ap (λ (l : List ℕ). choice_in (get_or l v.unit 0) v.shown) work_is ∙
         ap (λ (n : ℕ). choice_in n v.shown)
         (get_or_at p.front choice (choices_by (codes_of then (sets_with p.sets x)) ++ p.rest) 0 v.unit p.counted) ∙
-        ap (choice_in choice) p.shown_is ∙ choice_told x then p.sets p.gl stays can
+        choice_told x then p.sets v.shown stays can
 
     pub answer_fits : v.at + length answer_bytes ≤ length lent
     answer_fits = fits_here answer_bytes then (sets_with p.sets x) to_show answer_first
@@ -177,7 +156,7 @@ module _ {m : Form} {text lent work cells : List ℕ} {v : Written} {buffer : Li
     pub answer_put_lem : (next : ℕ) (known after_it : List ℕ) → v.place < next → Going m text known next then (sets_with p.sets x) →
         after_it ≡ sets buffer v.at answer_bytes →
         Putting m text lent work known
-        (record { place = next; unit = v.unit + 1; at = v.at + length answer_bytes; shown = index_of to_show }) after_it
+        (record { place = next; unit = v.unit + 1; at = v.at + length answer_bytes; shown = to_show }) after_it
     answer_put_lem next known after_it onward going stored =
         unit_put answer_bytes then (sets_with p.sets x) to_show answer_first choice answer_choice next known after_it onward going stored
 
@@ -189,8 +168,6 @@ module _ {m : Form} {text lent work cells : List ℕ} {v : Written} {buffer : Li
     steps = p.steps;
     sets = p.sets;
     going = going;
-    gl = p.gl;
-    shown_is = p.shown_is;
     front = p.front;
     rest = p.rest;
     choices = p.choices;
@@ -210,18 +187,16 @@ module _ {m : Form} {text lent work cells : List ℕ} {v : Written} {buffer : Li
   put_all past =
       let all : p.so_far ≡ shortest_text m text =
       sym (append-nil p.so_far) ∙
-      ap (λ (s : Steps). p.so_far ++ shortest_from s p.sets p.gl) (sym (no_step_left p.going past)) ∙ p.whole in
+      ap (λ (s : Steps). p.so_far ++ shortest_from s p.sets v.shown) (sym (no_step_left p.going past)) ∙ p.whole in
       p.wrote ∙ ap (λ (l : List ℕ). over l lent) all
 
 pub putting_starts : (m : Form) (text lent work rest : List ℕ) → Going m text starting_cells 0 (steps_of (sequence_of m text)) starting_sets →
     work ≡ choices_by (codes_of (steps_of (sequence_of m text)) starting_sets) ++ rest → length (shortest_text m text) ≤ length lent →
-    Putting m text lent work starting_cells (record { place = 0; unit = 0; at = 0; shown = index_of G0 }) lent
+    Putting m text lent work starting_cells (record { place = 0; unit = 0; at = 0; shown = G0 }) lent
 putting_starts m text lent work rest going choices room = record {
   steps = steps_of (sequence_of m text);
   sets = starting_sets;
   going = going;
-  gl = G0;
-  shown_is = refl;
   front = [];
   rest = rest;
   choices = choices;

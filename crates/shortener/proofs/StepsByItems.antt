@@ -24,8 +24,6 @@ use Rattle.paper.specs.declared.Reader.{Reader}
 use Rattle.paper.specs.declared.Answer.{Answer}
 use Rattle.paper.specs.declared.Answered.{Answered}
 use Rattle.paper.specs.declared.EndWord.{EndWord}
-use Rattle.paper.specs.declared.FirstRefusal.{FirstRefusal}
-use Rattle.paper.specs.declared.FirstRefusal.TheVariants.{Never}
 use Rattle.paper.proofs.Choices.{impossible}
 use Rattle.paper.proofs.AnswersWithoutTheRecord.{answer_of}
 use Rattle.paper.proofs.RecordsNotCompleted.{form_of}
@@ -35,9 +33,10 @@ use Rattle.paper.proofs.WhatIsReadCanBeWritten.{rest_can_be_written}
 use Rattle.paper.proofs.WrittenTurnByTurn.{later_refuse_nothing, sets_by_the_answer}
 use Rattle.paper.proofs.WrittenAnswersReadBack.{keeps_g0}
 use Rattle.paper.proofs.TextsThatAreAccepted.{refuses_nothing, accepted_ends_whole}
+use Rattle.escapes.specs.Effects.{word_number}
 use Rattle.items.specs.States.{changed, starting_cells, Single}
 use Rattle.items.specs.States as states
-use Rattle.items.specs.Items.{Item, opening_word, item_at}
+use Rattle.items.specs.Items.{Item, item_at}
 use Rattle.items.proofs.ItemsByBytes.{WaitsOn, NoRefusal, said_bytes, Said, LastByte, Stopped, refused_at, ends_inside_at, Opens, Good, reads, stops}
 use Rattle.items.proofs.ItemsGoOn.{ReadsOn, items_go_on}
 use Rattle.items.proofs.TextsReadOn.{in_step_on, rest, alone, first_here, end_here, opening_within, first_after, end_after_lem, sequence_after}
@@ -45,6 +44,9 @@ use Rattle.shortest.specs.ShortestText.{steps_of}
 use Rattle.shortest.proofs.TheShortestText.{steps_again, can, as_steps}
 use Rattle.shortest.proofs.NoneComesBefore.{sets_stay}
 use Rattle.shortener.specs.Going.{Reading, Going}
+use Rattle.std.specs.Prelude.{Option, None}
+use Rattle.paper.specs.declared.Refused.{Refused}
+use Rattle.escapes.specs.Effects.{opening_word}
 
 -- steps by their entries
 one_of_entries : (s other : Steps) → entries_of s ≡ entries_of other → s ≡ other
@@ -62,10 +64,10 @@ module _ {m : Form} {text : List ℕ} {t : Sets} {r : Reader} {place : ℕ} (p :
   abbrev a : Answer
   a = (answer_of r b).answer
 
-  abbrev later : FirstRefusal
+  abbrev later : Option Refused
   later = first_refusal (answers_from (place + 1) next (drop (place + 1) text))
 
-  nothing_refused : refusal_or later place a ≡ Never
+  nothing_refused : refusal_or later place a ≡ None
   nothing_refused =
       sym (first_here text r place inside) ∙ sym (ap (λ (l : List ℕ). first_refusal (answers_from place r l)) (rest text r place inside)) ∙ p.never
 
@@ -104,11 +106,11 @@ stands_between t (states.one g) x e = subst (Stands t) (sym e) tt
 
 -- what an item makes of a pass
 pub data Tells (m : Form) (text cells : List ℕ) (place : ℕ) (s : Steps) (t : Sets) (i : Item) : Type 0 where
-  opens : place < i.place → i.effect.word.0 ≡ opening_word → (then : Steps) → s ≡ opened then →
+  opens : place < i.place → word_number i.effect.word ≡ opening_word → (then : Steps) → s ≡ opened then →
       Going m text starting_cells i.place then starting_sets → Tells m text cells place s t i
-  passes : place < i.place → (x : Answer) → i.effect.word.0 ≡ word_of x → left_out x ≡ true →
+  passes : place < i.place → (x : Answer) → word_number i.effect.word ≡ word_of x → left_out x ≡ true →
       Going m text (changed i.effect cells) i.place s t → Tells m text cells place s t i
-  says : place < i.place → (x : Answer) → i.effect.word.0 ≡ word_of x → i.bytes ≡ said_bytes x →
+  says : place < i.place → (x : Answer) → word_number i.effect.word ≡ word_of x → i.bytes ≡ said_bytes x →
       Said x i.effect.value → left_out x ≡ false → (then : Steps) → s ≡ said x then →
       Going m text (changed i.effect cells) i.place then (sets_with t x) → Tells m text cells place s t i
 
@@ -134,11 +136,11 @@ module _ {m : Form} {text cells : List ℕ} {place : ℕ} {s : Steps} {t : Sets}
       let p = g.reading in
       let r : Reader = g.reader in
       let there : ℕ = place + length (opening m) in
-      let never : first_refusal (answers_from there (started m) (drop there text)) ≡ Never =
+      let never : first_refusal (answers_from there (started m) (drop there text)) ≡ None =
       sym (first_after m text r place p.form p.shows o.ground o.begins) ∙ p.never in
       let after = rest_can_be_written (drop there text) (started m) (λ seven. refl) there tt never in
       let place_is : i.place ≡ there = ap (λ (x : Item). x.place) o.is in
-      opens (omega (arith, place_is, some_bytes m)) (ap (λ (x : Item). x.effect.word.0) o.is) after.steps
+      opens (omega (arith, place_is, some_bytes m)) (ap (λ (x : Item). word_number x.effect.word) o.is) after.steps
       (one_of_entries s (opened after.steps)
       (sym g.left ∙ sequence_after m text r place p.form p.shows o.ground o.begins ∙ ap with_opening after.is))
       (subst (λ (n : ℕ). Going m text starting_cells n after.steps starting_sets) (sym place_is) (record {

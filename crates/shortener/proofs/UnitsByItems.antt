@@ -17,18 +17,19 @@ use Rattle.paper.specs.declared.Answer.{Answer}
 use Rattle.paper.proofs.Choices.{impossible}
 use Rattle.paper.proofs.WhatCanBeWritten.{CanBeWritten, Steps, said, opened, AllCanBeWritten}
 use Rattle.charsets.specs.Sizes.{kind_of}
+use Rattle.escapes.specs.Effects.{word_number}
 use Rattle.items.specs.Pieces.{bytes_in, Small}
 use Rattle.items.specs.States.{size_in, changed, starting_cells}
-use Rattle.items.specs.Items.{item_of, opening_word, item_at}
+use Rattle.items.specs.Items.{item_of, item_at}
 use Rattle.items.specs.declared.item.Item as declared
 use Rattle.items.proofs.CharactersGoOn.{kind_in}
 use Rattle.shortest.specs.ShortestText.{bytes_under}
-use Rattle.shortener.specs.Fours.{index_of}
 use Rattle.shortener.specs.Codes.{code_of}
 use Rattle.shortener.specs.Under.{under, code_by, is_unit, Fit}
 use Rattle.shortener.specs.Going.{Going}
 use Rattle.shortener.proofs.StepsByItems.{Tells, opens, passes, says, item_tells, no_opening_word}
 use Rattle.shortener.proofs.ItemsAsAnswers.{code_said, bytes_said, fit_said}
+use Rattle.escapes.specs.Effects.{opening_word}
 
 module _ {m : Form} {text cells : List ℕ} {place : ℕ} {s : Steps} {t : Sets} (g : Going m text cells place s t) (inside : place < length text)
     (r : declared.Item) (is : item_of r ≡ item_at m cells text place) where
@@ -57,7 +58,7 @@ module _ {m : Form} {text cells : List ℕ} {place : ℕ} {s : Steps} {t : Sets}
     pub can : CanBeWritten t answer
     pub going : Going m text (changed r.effect cells) r.place then (sets_with t answer)
     pub code : code_by cells r.effect (bytes_in r.piece) ≡ code_of t answer
-    pub bytes : (gl : Element) → under (index_of gl) r.effect (bytes_in r.piece) ≡ bytes_under gl answer
+    pub bytes : (gl : Element) → under gl r.effect (bytes_in r.piece) ≡ bytes_under gl answer
     pub fit : Small r.piece → Fit r.effect r.piece
 
   kinds : (e : Element) → kind_of (size_in cells (element_number e)) ≡ (set_in t e).kind
@@ -66,7 +67,7 @@ module _ {m : Form} {text cells : List ℕ} {place : ℕ} {s : Steps} {t : Sets}
       kind_in g.reader g.stands.single g.stands.left e ∙
       ap (λ (u : Sets). (set_in u e).kind) g.reading.sets_are
 
-  pub opens_it : r.effect.word.0 ≡ opening_word → OpensIt
+  pub opens_it : word_number r.effect.word ≡ opening_word → OpensIt
   opens_it word = by tells
     where
       by : Tells m text cells place s t (item_of r) → OpensIt
@@ -74,11 +75,11 @@ module _ {m : Form} {text cells : List ℕ} {place : ℕ} {s : Steps} {t : Sets}
       by (passes onward x w out going) = absurd (no_opening_word x (sym w ∙ word))
       by (says onward x w are value stays then next going) = absurd (no_opening_word x (sym w ∙ word))
 
-  unit_word : (x : Answer) (b : Bool) → left_out x ≡ b → r.effect.word.0 ≡ word_of x → is_unit r.effect.word.0 ≡ (b gives false or true)
+  unit_word : (x : Answer) (b : Bool) → left_out x ≡ b → word_number r.effect.word ≡ word_of x → is_unit (word_number r.effect.word) ≡ (b gives false or true)
   unfolding is_unit
   unit_word x b out w = rw w (ap (λ (b : Bool). b gives false or true) out)
 
-  pub shifts_it : (r.effect.word.0 ≡ opening_word → ⊥) → is_unit r.effect.word.0 ≡ false → ShiftsIt
+  pub shifts_it : (word_number r.effect.word ≡ opening_word → ⊥) → is_unit (word_number r.effect.word) ≡ false → ShiftsIt
   shifts_it other none = by tells
     where
       by : Tells m text cells place s t (item_of r) → ShiftsIt
@@ -86,7 +87,7 @@ module _ {m : Form} {text cells : List ℕ} {place : ℕ} {s : Steps} {t : Sets}
       by (passes onward x w out going) = record { onward = onward; going = going }
       by (says onward x w are value stays then next going) = impossible (cc (unit_word x false stays w, none))
 
-  pub says_it : (r.effect.word.0 ≡ opening_word → ⊥) → is_unit r.effect.word.0 ≡ true → SaysIt
+  pub says_it : (word_number r.effect.word ≡ opening_word → ⊥) → is_unit (word_number r.effect.word) ≡ true → SaysIt
   says_it other one = by tells
     where
       by : Tells m text cells place s t (item_of r) → SaysIt

@@ -1,9 +1,11 @@
 -- Going forward keeps the least sum: what it has cost to come so far with an element in GL, and what is left costs from there. At the end
 -- nothing is left, and the least of the ways is the length up to there.
-use Prim.Native.Nat.{ℕ, ◌+◌, ◌≤◌}
+use Prim.Native.Nat.{ℕ, ◌+◌, ◌<◌, ◌≤◌}
+use Rattle.std.proofs.Common.{min, ⊎_elim}
+use Rattle.std.proofs.lemmas.Bool.{cases_lt}
 use mathlib.Core.Path.{◌≡◌, refl, sym, subst}
 use native.Mathlib.Omega.{arith}
-use borrow.Author.Tests.{ltb-true, ltb-false}
+use borrow.Author.Tests.{ltb-true}
 use lib.Dec.{ltb}
 use lib.ListN.{length}
 use Rattle.paper.specs.WrittenForms.{sets_with}
@@ -15,38 +17,28 @@ use Rattle.paper.proofs.Choices.{gives_by}
 use Rattle.paper.proofs.WhatCanBeWritten.{Steps, said}
 use Rattle.shortest.specs.ShortestText.{cost, shift_to, moving, cheapest, least, cost_of, costs}
 use Rattle.shortest.proofs.WhatIsChosen.{near}
-use Rattle.shortener.specs.Fours.{lower, lowest_of}
+use Rattle.shortener.specs.ByElements.{lowest_of}
 use Rattle.shortener.specs.Ways.{first_ways, with, further, Closed}
 
 -- ---- the lowest of four
 
-lower_has : (P : ℕ → Type 0) (a b : ℕ) → P a → P b → P (lower a b)
-unfolding lower
-lower_has P a b p q = gives_by P (ltb b a) (λ h. q) (λ h. p)
+min_has : (P : ℕ → Type 0) (a b : ℕ) → P a → P b → P (min a b)
+min_has P a b p q = ⊎_elim (λ h. subst P (left a b h) p) (λ h. subst P (right a b h) q) (cases_lt a b)
+  where
+    left : (a b : ℕ) → a < b → a ≡ min a b
+    left a b h = omega arith
 
-pub lower_left : (a b : ℕ) → lower a b ≤ a
-unfolding lower
-lower_left a b = gives_by (λ (n : ℕ). n ≤ a) (ltb b a) (λ h. omega (arith, ltb-true b a h)) (λ h. omega arith)
-
-pub lower_right : (a b : ℕ) → lower a b ≤ b
-unfolding lower
-lower_right a b = gives_by (λ (n : ℕ). n ≤ b) (ltb b a) (λ h. omega arith) (λ h. ltb-false b a h)
+    right : (a b : ℕ) → b ≤ a → b ≡ min a b
+    right a b h = omega arith
 
 pub lowest_has : (P : ℕ → Type 0) (n : Element → ℕ) → ((e : Element) → P (n e)) → P (lowest_of n)
-lowest_has P n f = lower_has P _ (n G3) (lower_has P _ (n G2) (lower_has P (n G0) (n G1) (f G0) (f G1)) (f G2)) (f G3)
+lowest_has P n f = min_has P _ (n G3) (min_has P _ (n G2) (min_has P (n G0) (n G1) (f G0) (f G1)) (f G2)) (f G3)
 
 pub lowest_at : (n : Element → ℕ) (e : Element) → lowest_of n ≤ n e
-lowest_at n e =
-    let one : ℕ = lower (n G0) (n G1) in
-    let two : ℕ = lower one (n G2) in
-    by e (lower_left two (n G3)) (lower_right two (n G3)) (lower_left one (n G2)) (lower_right one (n G2)) (lower_left (n G0) (n G1))
-    (lower_right (n G0) (n G1))
-  where
-    by : (e : Element) {a b c : ℕ} → a ≤ b → a ≤ n G3 → b ≤ c → b ≤ n G2 → c ≤ n G0 → c ≤ n G1 → a ≤ n e
-    by G0 p q r s u v = omega arith
-    by G1 p q r s u v = omega arith
-    by G2 p q r s u v = omega arith
-    by G3 p q r s u v = omega arith
+lowest_at n G0 = omega arith
+lowest_at n G1 = omega arith
+lowest_at n G2 = omega arith
+lowest_at n G3 = omega arith
 
 -- two that are nowhere above each other
 both_ways : (m n : ℕ) → m ≤ n → n ≤ m → m ≡ n
@@ -93,13 +85,13 @@ module _ (ways rates : Element → ℕ) where
   through = with ways rates
 
   pub further_low : (e : Element) → after e ≤ ways e + rates e
-  further_low e = lower_left (through e) (lowest_of through + length (shift_to e))
+  further_low e = omega arith
 
   least_through : (e : Element) → lowest_of through ≤ after e
-  least_through e = lower_has (λ (n : ℕ). lowest_of through ≤ n) (through e) (lowest_of through + length (shift_to e)) (lowest_at through e) (omega arith)
+  least_through e = min_has (λ (n : ℕ). lowest_of through ≤ n) (through e) (lowest_of through + length (shift_to e)) (lowest_at through e) (omega arith)
 
   pub further_closed : Closed after
-  further_closed e k = omega (arith, lower_right (through k) (lowest_of through + length (shift_to k)), least_through e)
+  further_closed e k = omega (arith, least_through e)
 
 module _ (ways : Element → ℕ) (closed : Closed ways) (a : Answer) (s : Steps) (t : Sets) where
   abbrev next : Element → ℕ
@@ -141,7 +133,7 @@ module _ (ways : Element → ℕ) (closed : Closed ways) (a : Answer) (s : Steps
           (λ e. omega (arith, now_low e, near s (sets_with t a) e k))
 
       by : (k : Element) → now_left ≤ on k + next k
-      by k = lower_has (λ (n : ℕ). now_left ≤ n + next k) (through k) (lowest_of through + length (shift_to k)) (omega (arith, now_low k)) (shifted k)
+      by k = min_has (λ (n : ℕ). now_left ≤ n + next k) (through k) (lowest_of through + length (shift_to k)) (omega (arith, now_low k)) (shifted k)
 
   no_less : then_left ≤ now_left
   no_less = lowest_has (λ (n : ℕ). then_left ≤ n) (with ways (cost_of (said a s) t)) by

@@ -1,6 +1,6 @@
 -- No rule of the paper: for the contracts of private functions.
 -- Where a pass over an accepted text stands between two items: some reader stands so, and what is left are these steps, with these sets.
-use Rattle.std.specs.Prelude.{ℕ, ◌≤◌, ◌≡◌, List, length, drop}
+use Rattle.std.specs.Prelude.{ℕ, ◌≤◌, ◌≡◌, List, length, drop, None}
 use Rattle.paper.specs.Marks.{recording}
 use Rattle.paper.specs.Answering.{end_of_text}
 use Rattle.paper.specs.Texts.{reader_after, answers_from}
@@ -11,7 +11,6 @@ use Rattle.paper.specs.declared.Kind.TheVariants.{Of94}
 use Rattle.paper.specs.declared.Sets.{Sets}
 use Rattle.paper.specs.declared.Reader.{Reader}
 use Rattle.paper.specs.declared.EndWord.{EndWord}
-use Rattle.paper.specs.declared.FirstRefusal.TheVariants.{Never}
 use Rattle.paper.proofs.LawfulAnswers.{IsInStep}
 use Rattle.paper.proofs.OpeningsTakenWhole.{ShowsG1}
 use Rattle.paper.proofs.WhatCanBeWritten.{Steps, entries_of, AllCanBeWritten}
@@ -24,7 +23,7 @@ pub record Reading (m : Form) (text : List ℕ) (t : Sets) (r : Reader) (place :
   pub form : r.form ≡ m
   pub shows : ShowsG1 r
   pub sets_are : r.sets ≡ t
-  pub never : first_refusal (answers_from place r (drop place text)) ≡ Never
+  pub never : first_refusal (answers_from place r (drop place text)) ≡ None
   pub whole : end_of_text (reader_after r (drop place text)) ≡ EndWord.Whole
 
 pub record Going (m : Form) (text cells : List ℕ) (place : ℕ) (s : Steps) (t : Sets) : Type 0 where

@@ -1,4 +1,4 @@
-pub mod Fours
+pub mod ByElements
 pub mod Codes
 pub mod Choices
 pub mod Ways

@@ -6,15 +6,17 @@ use Rattle.paper.specs.Starting.{starting_sets, opening}
 use Rattle.paper.specs.LentBuffers.{over}
 use Rattle.paper.specs.WrittenForms.{sequence_of}
 use Rattle.paper.specs.declared.Form.{Form}
+use Rattle.paper.specs.declared.Element.{Element}
 use Rattle.paper.specs.declared.Sets.{Sets}
 use Rattle.paper.proofs.WhatCanBeWritten.{Steps}
 use Rattle.shortest.specs.ShortestText.{steps_of, cost_of}
 use Rattle.shortest.specs.Shortening.{shortest_text}
 use Rattle.shortest.proofs.WhatIsChosen.{after}
-use Rattle.shortener.specs.Fours.{of_four, four_of, lowest_of}
-use Rattle.shortener.specs.Codes.{cost_by, codes_of}
+use Rattle.shortener.specs.ByElements.{at_element, by_element, lowest_of}
+use Rattle.shortener.specs.Codes.{cost_by, packed, codes_of}
 use Rattle.shortener.specs.Ways.{first_ways, with, further, Closed}
 use Rattle.shortener.specs.Going.{Going}
+use Rattle.shortener.specs.declared.code.Code.{Code}
 use Rattle.shortener.specs.declared.weigh.Weighed.{Weighed}
 
 abbrev pub all_codes : Form → List ℕ → List ℕ
@@ -22,38 +24,35 @@ all_codes m text = codes_of (steps_of (sequence_of m text)) starting_sets
 
 -- one unit more, written where there is room, or else weighed
 abbrev pub unit_more : Weighed → ℕ → Weighed
-unit_more w next = record { place = next; count = w.count + 1; length = w.length; ways = w.ways }
+unit_more w next = record w { place = next; count = w.count + 1 }
 
 abbrev pub opening_more : Weighed → ℕ → Weighed
 opening_more w next = record {
   place = next;
   count = w.count + 1;
-  length = w.length + lowest_of (of_four w.ways) + length (opening Form.Seven);
-  ways = four_of first_ways;
+  length = w.length + lowest_of (at_element w.ways) + length (opening Form.Seven);
+  ways = by_element first_ways;
 }
 
-abbrev pub answer_more : Weighed → ℕ → ℕ → Weighed
+abbrev pub answer_more : Weighed → ℕ → Code → Weighed
 answer_more w next code =
-    record { place = next; count = w.count + 1; length = w.length; ways = four_of (further (of_four w.ways) (cost_by code)) }
+    record { place = next; count = w.count + 1; length = w.length; ways = by_element (further (at_element w.ways) (cost_by code)) }
 
 abbrev pub more : Weighed → ℕ → List ℕ → Weighed → Weighed
 more w next work else = ltb w.count (length work) gives unit_more w next or else
 
-abbrev pub put : Weighed → List ℕ → ℕ → List ℕ
-put w work code = ltb w.count (length work) gives set work w.count code or work
+abbrev pub put : Weighed → List ℕ → Code → List ℕ
+put w work code = ltb w.count (length work) gives set work w.count (packed code) or work
 
 -- numbers that stay small, by the place
 pub record Bounded (w : Weighed) : Type 0 where
   pub few : w.count ≤ w.place
-  pub g0 : w.length + w.ways.g0 ≤ 2 + 24 * w.place
-  pub g1 : w.length + w.ways.g1 ≤ 2 + 24 * w.place
-  pub g2 : w.length + w.ways.g2 ≤ 2 + 24 * w.place
-  pub g3 : w.length + w.ways.g3 ≤ 2 + 24 * w.place
+  pub each : (e : Element) → w.length + at_element w.ways e ≤ 2 + 24 * w.place
 
 -- the length so far, and what is left costs
 pub record Weight (m : Form) (text : List ℕ) (s : Steps) (t : Sets) (w : Weighed) : Type 0 where
-  pub closed : Closed (of_four w.ways)
-  pub total : w.length + lowest_of (with (of_four w.ways) (cost_of s t)) + after s ≡ length (shortest_text m text)
+  pub closed : Closed (at_element w.ways)
+  pub total : w.length + lowest_of (with (at_element w.ways) (cost_of s t)) + after s ≡ length (shortest_text m text)
 
 pub record Weighing (m : Form) (text lent cells : List ℕ) (w : Weighed) (work : List ℕ) : Type 0 where
   pub steps : Steps

@@ -2,133 +2,136 @@
 // to show while the unit is written.
 ghost use Rattle.std.specs.Prelude.{◌+◌, ◌≤◌, ◌≡◌, ◌++◌, ltb, length, take, drop};
 ghost use Rattle.paper.specs.Choice.{◌gives◌or◌};
+ghost use Rattle.paper.specs.declared.Element.{Element};
 ghost use Rattle.shortest.specs.ShortestText as text;
 ghost use Rattle.shortest.specs.Shortening.{longest_input};
-ghost use Rattle.shortener.specs.Fours.{of_four, four_of, AtMost, index_of};
-ghost use Rattle.shortener.specs.Choices.{is_before, chosen_by, choice_at, packed, with_code, costs_with, choices_with, choices_by};
+ghost use Rattle.shortener.specs.ByElements.{at_element, by_element, AtMost};
+ghost use Rattle.shortener.specs.Codes.{count_in};
+ghost use Rattle.shortener.specs.Choices.{is_before, chosen_by, choice_at, with_code, costs_with, choices_with, packed_choices, choice_in, choices_by};
 
-use crate::code::{FIRST, MIDDLE, OF_OPENING, costs_by, place_by};
-use crate::four::{Four, IN_G0, IN_G1, IN_G2, IN_G3, lower, moving, sum};
+use crate::by_element::{ByElement, element_at, index_of};
+use crate::code::{Code, Place};
+use paper::Element;
 
+// A shift, by the element that it puts into GL, and what it costs to go on by way of it.
 #[derive(Clone, Copy)]
 struct Best {
-    element: u8,
+    element: Element,
     cost: usize,
 }
 
-fn cheaper(best: Best, element: u8, cost: usize) -> Best
-    ensures { result ≡ (ltb cost best.cost gives record { element = element; cost = cost } or best) }
-{
-    if cost < best.cost {
-        Best {
-            element: element,
-            cost: cost,
+impl Best {
+    fn or(self, element: Element, cost: usize) -> Best
+        ensures { result ≡ (ltb cost self.cost gives record { element = element; cost = cost } or self) }
+    {
+        if cost < self.cost {
+            Best { element, cost }
+        } else {
+            self
         }
-    } else {
-        best
     }
 }
 
 // The first in byte order of the shifts that cost least.
-fn cheapest(costs: Four) -> Best
+fn cheapest(costs: ByElement<usize>) -> Best
     requires { AtMost 0x1000000000 costs }
-    ensures { (result.element ≡ index_of (text.cheapest (of_four costs))) ×
-        (result.cost ≡ text.moving (of_four costs) (text.cheapest (of_four costs))) }
+    ensures { (result.element ≡ text.cheapest (at_element costs)) ×
+        (result.cost ≡ text.moving (at_element costs) (text.cheapest (at_element costs))) }
 {
-    let with = moving(costs);
+    let with = costs.moving();
     let first = Best {
-        element: IN_G1,
-        cost: with.g1,
+        element: Element::G1,
+        cost: with.at(Element::G1),
     };
-    cheaper(
-        cheaper(cheaper(first, IN_G0, with.g0), IN_G2, with.g2),
-        IN_G3,
-        with.g3,
-    )
+    first
+        .or(Element::G0, with.at(Element::G0))
+        .or(Element::G2, with.at(Element::G2))
+        .or(Element::G3, with.at(Element::G3))
 }
 
-// Whether bytes at a place in byte order come before a shift.
-#[tactic(auto, using(paper::proofs::Tests::tests), unfolding(crate::specs::Choices::is_before))]
-fn is_before(place: u8, element: u8) -> bool
+// Whether bytes at a place come before a shift.
+fn is_before(place: Place, element: Element) -> bool
     ensures { result ≡ is_before place element }
 {
     match place {
-        FIRST => true,
-        MIDDLE => element >= IN_G2,
-        _ => false,
+        Place::First => true,
+        Place::Middle => matches!(element, Element::G2 | Element::G3),
+        Place::Last => false,
     }
 }
 
 // The element that GL is to show.
-#[tactic(auto, using(paper::proofs::Tests::tests), unfolding(crate::specs::Choices::chosen_by))]
-fn chosen(cost: usize, best: Best, place: u8, shown: u8) -> u8
+fn chosen(cost: usize, best: Best, place: Place, shown: Element) -> Element
     ensures { result ≡ chosen_by cost best.cost best.element place shown }
 {
-    if cost < best.cost {
-        return shown;
+    if cost < best.cost || cost == best.cost && is_before(place, best.element) {
+        shown
+    } else {
+        best.element
     }
-    if cost == best.cost {
-        if is_before(place, best.element) {
-            return shown;
-        }
-    }
-    best.element
 }
 
 #[derive(Clone, Copy)]
 struct Turned {
-    choices: u8,
-    costs: Four,
+    choices: ByElement<Element>,
+    costs: ByElement<usize>,
 }
 
-// One unit, by what each element costs after it.
-fn turn(code: u8, later: Four) -> Turned
-    requires { AtMost 0x100000000 later }
-    ensures choices_value { result.choices ≡ packed (choice_at (with_code code (of_four later)) code) }
-    ensures costs_value { result.costs ≡ four_of (text.least (with_code code (of_four later))) }
+// One unit, by what each element costs after it. That the count of a code has four bits stands in clauses: an enum has no ghost field, and a
+// struct around it would be taken apart at each look.
+fn turn(code: Code, later: ByElement<usize>) -> Turned
+    requires { AtMost 0x100000000 later × (count_in code ≤ 15) }
+    ensures choices_value { result.choices ≡ by_element (choice_at (with_code code (at_element later)) code) }
+    ensures costs_value { result.costs ≡ by_element (text.least (with_code code (at_element later))) }
 {
-    let costs = sum(costs_by(code), later);
+    let costs = code.costs().plus(later);
     let best = cheapest(costs);
-    let least = best.cost;
-    let in_g0 = chosen(costs.g0, best, place_by(code, IN_G0), IN_G0);
-    let in_g1 = chosen(costs.g1, best, place_by(code, IN_G1), IN_G1);
-    let in_g2 = chosen(costs.g2, best, place_by(code, IN_G2), IN_G2);
-    let in_g3 = chosen(costs.g3, best, place_by(code, IN_G3), IN_G3);
     Turned {
-        choices: in_g0 + 4 * in_g1 + 16 * in_g2 + 64 * in_g3,
-        costs: Four {
-            g0: lower(costs.g0, least),
-            g1: lower(costs.g1, least),
-            g2: lower(costs.g2, least),
-            g3: lower(costs.g3, least),
-        },
+        choices: ByElement::of(|shown| chosen(costs.at(shown), best, code.place(shown), shown)),
+        costs: ByElement::of(|shown| costs.at(shown).min(best.cost)),
     }
 }
 
-fn nothing() -> Four
-    ensures { result ≡ four_of (λ e. 0) }
+fn nothing() -> ByElement<usize>
+    ensures { result ≡ by_element (λ e. 0) }
 {
-    Four {
-        g0: 0,
-        g1: 0,
-        g2: 0,
-        g3: 0,
-    }
+    ByElement::of(|_| 0)
 }
 
 // Up to an opening nothing costs: it is written whole, and the output after it is its own.
-fn turn_or_opening(code: u8, later: Four) -> Turned
-    requires { AtMost 0x100000000 later }
-    ensures choices_value { result.choices ≡ choices_with code (of_four later) }
-    ensures costs_value { result.costs ≡ four_of (costs_with code (of_four later)) }
+fn turn_or_opening(code: Code, later: ByElement<usize>) -> Turned
+    requires { AtMost 0x100000000 later × (count_in code ≤ 15) }
+    ensures choices_value { result.choices ≡ by_element (choices_with code (at_element later)) }
+    ensures costs_value { result.costs ≡ by_element (costs_with code (at_element later)) }
 {
-    if code == OF_OPENING {
+    if code.is_opening() {
         return Turned {
-            choices: 0,
+            choices: ByElement::of(|_| Element::G0),
             costs: nothing(),
         };
     }
     turn(code, later)
+}
+
+// The choices at a unit as a byte of the work buffer, which is memory that the caller lends, and the one where GL shows an element.
+fn packed(choices: ByElement<Element>) -> u8
+    ensures { result ≡ packed_choices (at_element choices) }
+{
+    index_of(choices.at(Element::G0))
+        + 4 * index_of(choices.at(Element::G1))
+        + 16 * index_of(choices.at(Element::G2))
+        + 64 * index_of(choices.at(Element::G3))
+}
+
+pub(crate) fn choice(choices: u8, shown: Element) -> Element
+    ensures { result ≡ choice_in choices shown }
+{
+    element_at(match shown {
+        Element::G0 => choices % 4,
+        Element::G1 => choices / 4 % 4,
+        Element::G2 => choices / 16 % 4,
+        Element::G3 => choices / 64,
+    })
 }
 
 pub(crate) fn choose(work: &mut [u8], count: usize)
@@ -136,11 +139,9 @@ pub(crate) fn choose(work: &mut [u8], count: usize)
     ensures { work.new ≡ choices_by (take count work.old) ++ drop count work.old }
 {
     let mut later = nothing();
-    let mut left = count;
-    while left > 0 {
-        left -= 1;
-        let now = turn_or_opening(work[left], later);
-        work[left] = now.choices;
+    for left in (0..count).rev() {
+        let now = turn_or_opening(Code::unpacked(work[left]), later);
+        work[left] = packed(now.choices);
         later = now.costs;
     }
 }

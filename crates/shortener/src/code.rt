@@ -1,24 +1,38 @@
-// The code of a unit: what it costs, by what GL shows, and whether it comes before a locking shift in byte order.
-// A character has its element and its number of bytes; SPACE and DELETE the elements that hold a set of 94 type; all else, which is written
-// alike whatever GL shows, its place in byte order and its number of bytes.
-ghost use Rattle.std.specs.Prelude.{◌+◌, ◌*◌, ◌≤◌, ◌≡◌};
-ghost use Rattle.paper.specs.Results.{element_number};
-ghost use Rattle.charsets.specs.Sizes as sizes;
-ghost use Rattle.items.specs.States.{size_in};
-ghost use Rattle.shortener.specs.Fours.{four_of, index_at};
-ghost use Rattle.shortener.specs.Codes.{character_cost, space_or_delete_cost, cost_by, place_by, kind_bit, space_or_delete_code, alike_code};
+// The code of a unit: what it costs, by what GL shows, and whether it comes before a locking shift in byte order. In the work buffer, which
+// is memory that the caller lends (request #108), a code is a byte.
+ghost use Rattle.std.specs.Prelude.{◌≤◌, ◌≡◌};
+ghost use Rattle.paper.specs.declared.Element.{Element};
+ghost use Rattle.shortener.specs.ByElements.{by_element};
+ghost use Rattle.shortener.specs.Codes.{character_cost, cost_by, place_by, is_opening, count_in, kind_bit, kind_at, mask_of, place_at};
+ghost use Rattle.shortener.specs.Codes as codes;
 
-use crate::four::{Four, IN_G0, IN_G1, IN_G2, IN_G3};
-use charsets::kind_of;
-use escapes::effect::{ElementNumber, G0, G1, G2, G3};
-use items::state::{CELLS, size_in};
-use paper::Kind;
+use crate::by_element::{ByElement, element_at, index_of};
+use paper::{Element, Kind};
 
-pub(crate) const OF_SPACE_OR_DELETE: u8 = 0x40;
+// In byte order: before SO, between SI and LS2, after LS3.
+#[derive(Clone, Copy)]
+pub(crate) enum Place {
+    First,
+    Middle,
+    Last,
+}
 
-pub(crate) const OF_ALIKE: u8 = 0x80;
+#[derive(Clone, Copy)]
+pub(crate) enum Code {
+    // a character, by its element and its number of bytes
+    Character(Element, u8),
+    // by the kinds of the sets, since a set of 94 type holds them
+    SpaceOrDelete(ByElement<Kind>),
+    // what is written alike whatever GL shows, by its place and its number of bytes
+    Alike(Place, u8),
+    Opening,
+}
 
-pub(crate) const OF_OPENING: u8 = 0xFF;
+const OF_SPACE_OR_DELETE: u8 = 0x40;
+
+const OF_ALIKE: u8 = 0x80;
+
+const OF_OPENING: u8 = 0xFF;
 
 const ROW: u8 = 16;
 
@@ -28,128 +42,137 @@ const FAR: usize = 16;
 // What a single shift costs.
 const SINGLE_SHIFT: usize = 2;
 
-// Before SO, between SI and LS2, after LS3.
-pub(crate) const FIRST: u8 = 0;
-
-pub(crate) const MIDDLE: u8 = 1;
-
-pub(crate) const LAST: u8 = 2;
-
-#[tactic(auto, using(paper::proofs::Tests::tests), unfolding(crate::specs::Codes::character_cost))]
-fn character_cost(own: u8, shown: u8, count: u8) -> usize
+fn character_cost(own: Element, shown: Element, count: u8) -> usize
     ensures { result ≡ character_cost own shown count }
 {
-    if own == shown {
-        return count as usize;
-    }
-    if own < IN_G2 {
-        return FAR;
-    }
-    count as usize + SINGLE_SHIFT
-}
-
-#[tactic(auto, using(paper::proofs::Tests::tests), unfolding(crate::specs::Codes::space_or_delete_cost))]
-fn space_or_delete_cost(bit: u8) -> usize
-    ensures { result ≡ space_or_delete_cost bit }
-{
-    if bit == 1 { 1 } else { FAR }
-}
-
-// What a unit costs.
-pub(crate) fn costs_by(code: u8) -> Four
-    ensures { result ≡ four_of (cost_by code) }
-{
-    let count = code % ROW;
-    if code < OF_SPACE_OR_DELETE {
-        let own = code / ROW;
-        return Four {
-            g0: character_cost(own, IN_G0, count),
-            g1: character_cost(own, IN_G1, count),
-            g2: character_cost(own, IN_G2, count),
-            g3: character_cost(own, IN_G3, count),
-        };
-    }
-    if code < OF_ALIKE {
-        return Four {
-            g0: space_or_delete_cost(count % 2),
-            g1: space_or_delete_cost(count / 2 % 2),
-            g2: space_or_delete_cost(count / 4 % 2),
-            g3: space_or_delete_cost(count / 8),
-        };
-    }
-    Four {
-        g0: count as usize,
-        g1: count as usize,
-        g2: count as usize,
-        g3: count as usize,
+    let count = usize::from(count);
+    match own {
+        _ if own == shown => count,
+        Element::G0 | Element::G1 => FAR,
+        Element::G2 | Element::G3 => count + SINGLE_SHIFT,
     }
 }
 
-// Where its bytes stand in byte order.
-#[tactic(auto, using(paper::proofs::Tests::tests), unfolding(crate::specs::Codes::place_by))]
-pub(crate) fn place_by(code: u8, shown: u8) -> u8
-    ensures { result ≡ place_by code shown }
-{
-    if code < OF_SPACE_OR_DELETE {
-        let own = code / ROW;
-        if own == shown {
-            return LAST;
+impl Code {
+    fn cost(self, shown: Element) -> usize
+        ensures { result ≡ cost_by self shown }
+    {
+        match self {
+            Code::Character(own, count) => character_cost(own, shown, count),
+            Code::SpaceOrDelete(kinds) => match kinds.at(shown) {
+                Kind::Of94 => 1,
+                Kind::Of96 => FAR,
+            },
+            Code::Alike(_, count) => usize::from(count),
+            Code::Opening => 0,
         }
-        if own < IN_G2 {
-            return LAST;
+    }
+
+    pub(crate) fn costs(self) -> ByElement<usize>
+        ensures { result ≡ by_element (cost_by self) }
+    {
+        ByElement::of(|shown| self.cost(shown))
+    }
+
+    // Where its bytes stand. Those of a character of G2 or G3 begin with a single shift where GL shows another.
+    pub(crate) fn place(self, shown: Element) -> Place
+        ensures { result ≡ place_by self shown }
+    {
+        match self {
+            Code::Character(own, _) => match own {
+                Element::G2 | Element::G3 if own != shown => Place::Middle,
+                _ => Place::Last,
+            },
+            Code::Alike(place, _) => place,
+            Code::SpaceOrDelete(_) | Code::Opening => Place::Last,
         }
-        return MIDDLE;
     }
-    if code < OF_ALIKE {
-        return LAST;
+
+    pub(crate) fn is_opening(self) -> bool
+        ensures { result ≡ is_opening self }
+    {
+        matches!(self, Code::Opening)
     }
-    code / ROW - OF_ALIKE / ROW
+
+    // no `From`, which can have no `requires`; `unpacked` is named to match
+    #[tactic(auto, unfolding(crate::specs::Codes::packed))]
+    pub(crate) fn packed(self) -> u8
+        requires { count_in self ≤ 15 }
+        ensures { result ≡ codes.packed self }
+    {
+        match self {
+            Code::Character(own, count) => ROW * index_of(own) + count,
+            Code::SpaceOrDelete(kinds) => OF_SPACE_OR_DELETE + mask_of(kinds),
+            Code::Alike(place, count) => OF_ALIKE + ROW * (place as u8) + count,
+            Code::Opening => OF_OPENING,
+        }
+    }
+
+    #[tactic(auto, using(paper::proofs::Tests::tests), unfolding(crate::specs::Codes::unpacked))]
+    pub(crate) fn unpacked(byte: u8) -> Code
+        ensures { result ≡ codes.unpacked byte }
+    {
+        let count = byte % ROW;
+        if byte < OF_SPACE_OR_DELETE {
+            return Code::Character(element_at(byte / ROW), count);
+        }
+        if byte < OF_ALIKE {
+            return Code::SpaceOrDelete(kinds_by(count));
+        }
+        if byte == OF_OPENING {
+            return Code::Opening;
+        }
+        Code::Alike(place_at(byte / ROW - OF_ALIKE / ROW), count)
+    }
 }
 
-// The place of an element from G0 on.
-#[tactic(auto, using(paper::proofs::Tests::tests), unfolding(crate::specs::Fours::index_at))]
-pub(crate) fn index_of(element: ElementNumber) -> u8
-    ensures { result ≡ index_at element.0 }
+fn kind_bit(kind: Kind) -> u8
+    ensures { (result ≡ kind_bit kind) × (result ≤ 1) }
 {
-    let number = element.0;
-    match number {
-        G0 => IN_G0,
-        G1 => IN_G1,
-        G2 => IN_G2,
-        _ => IN_G3,
-    }
-}
-
-fn bit_of(state: &[u8; CELLS], element: u8) -> u8
-    ensures { (result ≡ kind_bit (sizes.kind_of (size_in state.now element))) × (result ≤ 1) }
-{
-    match kind_of(size_in(state, ElementNumber(element))) {
+    match kind {
         Kind::Of94 => 1,
         Kind::Of96 => 0,
     }
 }
 
-pub(crate) fn code_of_character(element: ElementNumber, count: usize) -> u8
-    requires { count ≤ 15 }
-    ensures { result ≡ 16 * index_at element.0 + count }
+fn kind_at(bit: u8) -> Kind
+    ensures { result ≡ kind_at bit }
 {
-    ROW * index_of(element) + count as u8
+    match bit {
+        1 => Kind::Of94,
+        _ => Kind::Of96,
+    }
 }
 
-pub(crate) fn code_of_space_or_delete(state: &[u8; CELLS]) -> u8
-    ensures { result ≡ space_or_delete_code (λ e. sizes.kind_of (size_in state.now (element_number e))) }
+fn place_at(number: u8) -> Place
+    ensures { result ≡ place_at number }
 {
-    OF_SPACE_OR_DELETE
-        + bit_of(state, G0)
-        + 2 * bit_of(state, G1)
-        + 4 * bit_of(state, G2)
-        + 8 * bit_of(state, G3)
+    match number {
+        0 => Place::First,
+        1 => Place::Middle,
+        _ => Place::Last,
+    }
 }
 
-#[tactic(auto, unfolding(crate::specs::Codes::alike_code))]
-pub(crate) fn code_alike(place: u8, count: usize) -> u8
-    requires { (place ≤ 2) × (count ≤ 14) }
-    ensures { result ≡ alike_code place count }
+// A bit for each element that holds a set of 94 type, and back.
+fn mask_of(kinds: ByElement<Kind>) -> u8
+    ensures { (result ≡ mask_of kinds) × (result ≤ 15) }
 {
-    OF_ALIKE + ROW * place + count as u8
+    kind_bit(kinds.at(Element::G0))
+        + 2 * kind_bit(kinds.at(Element::G1))
+        + 4 * kind_bit(kinds.at(Element::G2))
+        + 8 * kind_bit(kinds.at(Element::G3))
+}
+
+fn kinds_by(mask: u8) -> ByElement<Kind>
+    ensures { result ≡ by_element (λ e. kind_at (codes.bit_of mask e)) }
+{
+    ByElement::of(|element| {
+        kind_at(match element {
+            Element::G0 => mask % 2,
+            Element::G1 => mask / 2 % 2,
+            Element::G2 => mask / 4 % 2,
+            Element::G3 => mask / 8,
+        })
+    })
 }

@@ -1,40 +1,41 @@
 // The bytes of an item in 7-bit form, by what GL shows, and its code.
-ghost use Rattle.std.specs.Prelude.{◌≤◌, ◌<◌, ◌≡◌, ◌∷◌};
+ghost use Rattle.std.specs.Prelude.{◌≤◌, ◌<◌, ◌≡◌, ◌∷◌, ◌++◌};
 ghost use Rattle.paper.specs.CodeTable.{esc};
-ghost use Rattle.shortest.specs.ShortestText.{rank};
+ghost use Rattle.shortest.specs.ShortestText.{shift_from, rank};
+ghost use Rattle.escapes.specs.Effects.{word_number};
 ghost use Rattle.items.specs.Pieces.{bytes_in, Small};
-ghost use Rattle.shortener.specs.Codes.{place_of_rank};
+ghost use Rattle.shortener.specs.Codes.{place_of_rank, count_in};
 ghost use Rattle.shortener.specs.Under as specs;
-ghost use Rattle.shortener.specs.Under.{control_in_seven, character_under, under, code_by, led_by, is_unit, Fit, Room};
+ghost use Rattle.shortener.specs.Under.{control_in_seven, character_under, under, kinds_in, code_by, is_unit, Fit, Room};
 
-use crate::code::{
-    FIRST, LAST, MIDDLE, code_alike, code_of_character, code_of_space_or_delete, index_of,
-};
-use crate::four::{IN_G0, IN_G1, IN_G2, IN_G3};
+use crate::by_element::{ByElement, element_of, number_of};
+use crate::code::{Code, Place};
+use charsets::kind_of;
 use codetable::{BIT_8, ESC, SI, SO};
-use escapes::effect::{
-    CHAR_WORD, CONTROL_WORD, DELETE_WORD, Effect, ElementNumber, SHIFT_WORD, SPACE_WORD,
-};
-use escapes::{
-    FINAL_OF_FUNCTION, FINAL_OF_LS2, FINAL_OF_LS3, SINGLE_SHIFT_THREE, SINGLE_SHIFT_TWO,
-};
+use escapes::effect::{Effect, ElementNumber, Word};
+use escapes::{FINAL_OF_FUNCTION, FINAL_OF_LS2, FINAL_OF_LS3, FINAL_OF_SS2, FINAL_OF_SS3};
 use items::piece::{Piece, SECOND, in_front, one};
-use items::state::CELLS;
-
-const FINAL_OF_SS2: u8 = FINAL_OF_FUNCTION + SINGLE_SHIFT_TWO;
-
-const FINAL_OF_SS3: u8 = FINAL_OF_FUNCTION + SINGLE_SHIFT_THREE;
+use items::state::{CELLS, size_in};
+use paper::{Element, Kind};
 
 // The first two bytes of SO and of LS2 as numbers.
 const RANK_OF_SO: u64 = SO as u64 * SECOND;
 
 const RANK_OF_LS2: u64 = ESC as u64 * SECOND + FINAL_OF_LS2 as u64;
 
+// An item that is written, a character or what is written alike: what it does, and its bytes.
+#[derive(Clone, Copy)]
+pub(crate) struct Unit {
+    pub(crate) effect: Effect,
+    pub(crate) piece: Piece,
+    pub(crate) ghost fit: { Fit effect piece },
+}
+
 // A shift and more, in front of what it is for.
 fn after_escape(last: u8, piece: Piece) -> Piece
-    requires { Room 5 0x1000000000000 piece }
+    requires { Room piece }
     ensures result_value { bytes_in result ≡ esc ∷ last ∷ bytes_in piece }
-    ensures count_bound { (result.count ≤ 7) × (piece.count ≤ 3 → piece.bytes < 0x100000000 → Room 5 0x1000000000000 result) }
+    ensures count_bound { (result.count ≤ 7) × (piece.count ≤ 3 → piece.bytes < 0x100000000 → Room result) }
 {
     in_front(ESC, in_front(last, piece))
 }
@@ -52,44 +53,38 @@ fn control_in_seven(piece: Piece) -> Piece
 }
 
 // What is written alike whatever GL shows.
-fn alike(effect: Effect, piece: Piece) -> Piece
-    requires { Fit effect piece }
-    ensures { (bytes_in result ≡ specs.alike effect.word.0 (bytes_in piece)) × Small result × (1 ≤ result.count) }
+fn alike(unit: Unit) -> Piece
+    ensures { (bytes_in result ≡ specs.alike (word_number unit.effect.word) (bytes_in unit.piece)) × Small result × (1 ≤ result.count) }
 {
-    let word = effect.word;
-    if word.0 == CONTROL_WORD {
-        return control_in_seven(piece);
+    if unit.effect.word == Word::CONTROL {
+        return control_in_seven(unit.piece);
     }
-    piece
+    unit.piece
 }
 
 // A character of an element while GL shows another, or the same.
-#[tactic(auto, using(paper::proofs::Tests::tests), unfolding(crate::specs::Under::character_under))]
-fn character_under(shown: u8, own: u8, piece: Piece) -> Piece
+fn character_under(shown: Element, own: Element, piece: Piece) -> Piece
     requires { Small piece × (piece.count ≤ 3) }
-    ensures { (bytes_in result ≡ character_under shown own (bytes_in piece)) × Room 5 0x1000000000000 result }
+    ensures { (bytes_in result ≡ character_under shown own (bytes_in piece)) × Room result }
 {
-    if own == shown {
-        return piece;
+    match own {
+        Element::G2 if own != shown => after_escape(FINAL_OF_SS2, piece),
+        Element::G3 if own != shown => after_escape(FINAL_OF_SS3, piece),
+        _ => piece,
     }
-    if own == IN_G2 {
-        return after_escape(FINAL_OF_SS2, piece);
-    }
-    if own == IN_G3 {
-        return after_escape(FINAL_OF_SS3, piece);
-    }
-    piece
 }
 
-pub(crate) fn bytes_under(shown: u8, effect: Effect, piece: Piece) -> Piece
-    requires { Fit effect piece }
-    ensures { (bytes_in result ≡ under shown effect (bytes_in piece)) × Room 5 0x1000000000000 result }
+pub(crate) fn bytes_under(shown: Element, unit: Unit) -> Piece
+    ensures { (bytes_in result ≡ under shown unit.effect (bytes_in unit.piece)) × Room result }
 {
-    let word = effect.word;
-    if word.0 == CHAR_WORD {
-        return character_under(shown, index_of(ElementNumber(effect.value)), piece);
+    if unit.effect.word == Word::CHAR {
+        return character_under(
+            shown,
+            element_of(ElementNumber(unit.effect.value)),
+            unit.piece,
+        );
     }
-    alike(effect, piece)
+    alike(unit)
 }
 
 // The first two bytes as one number.
@@ -97,72 +92,75 @@ fn rank_of(piece: Piece) -> u64
     requires { 1 ≤ piece.count }
     ensures { result ≡ rank (bytes_in piece) }
 {
-    let bytes = piece.bytes;
+    let first = piece.bytes % SECOND * SECOND;
     if piece.count < 2 {
-        return bytes % SECOND * SECOND;
+        return first;
     }
-    bytes % SECOND * SECOND + bytes / SECOND % SECOND
+    first + piece.bytes / SECOND % SECOND
 }
 
 // Its place in byte order.
 #[tactic(auto, using(paper::proofs::Tests::tests), unfolding(crate::specs::Codes::place_of_rank))]
-fn place_of(rank: u64) -> u8
-    ensures { (result ≡ place_of_rank rank) × (result ≤ 2) }
+fn place_of(rank: u64) -> Place
+    ensures { result ≡ place_of_rank rank }
 {
     if rank < RANK_OF_SO {
-        return FIRST;
+        return Place::First;
     }
     if rank < RANK_OF_LS2 {
-        return MIDDLE;
+        return Place::Middle;
     }
-    LAST
+    Place::Last
 }
 
-fn code_alike_of(effect: Effect, piece: Piece) -> u8
-    requires { Fit effect piece }
-    ensures { result ≡ specs.alike_code_of effect.word.0 (bytes_in piece) }
+fn code_alike(unit: Unit) -> Code
+    ensures { (result ≡ specs.alike_code_of (word_number unit.effect.word) (bytes_in unit.piece)) × (count_in result ≤ 15) }
 {
-    let written = alike(effect, piece);
-    code_alike(place_of(rank_of(written)), written.count)
+    let written = alike(unit);
+    Code::Alike(place_of(rank_of(written)), written.count as u8)
+}
+
+// Of the sets in G0 to G3.
+fn kinds_in(state: &[u8; CELLS]) -> ByElement<Kind>
+    ensures { result ≡ kinds_in state.now }
+{
+    ByElement::of(|element| kind_of(size_in(state, number_of(element))))
 }
 
 #[tactic(auto, using(paper::proofs::Tests::tests), unfolding(crate::specs::Under::code_by))]
-pub(crate) fn code_of(state: &[u8; CELLS], effect: Effect, piece: Piece) -> u8
-    requires { Fit effect piece }
-    ensures { result ≡ code_by state.now effect (bytes_in piece) }
+pub(crate) fn code_of(state: &[u8; CELLS], unit: Unit) -> Code
+    ensures { (result ≡ code_by state.now unit.effect (bytes_in unit.piece)) × (count_in result ≤ 15) }
 {
-    let word = effect.word;
-    let number = word.0;
-    match number {
-        CHAR_WORD => code_of_character(ElementNumber(effect.value), piece.count),
-        SPACE_WORD => code_of_space_or_delete(state),
-        DELETE_WORD => code_of_space_or_delete(state),
-        _ => code_alike_of(effect, piece),
+    match unit.effect.word {
+        Word::CHAR => {
+            Code::Character(
+                element_of(ElementNumber(unit.effect.value)),
+                unit.piece.count as u8,
+            )
+        }
+        Word::SPACE | Word::DELETE => Code::SpaceOrDelete(kinds_in(state)),
+        _ => code_alike(unit),
     }
 }
 
 // What puts an element into GL, in front of a piece; none where GL shows it.
-pub(crate) fn led(shown: u8, element: u8, piece: Piece) -> Piece
-    requires { Room 5 0x1000000000000 piece }
-    ensures { (bytes_in result ≡ led_by shown element (bytes_in piece)) × (result.count ≤ 7) }
+pub(crate) fn led(shown: Element, element: Element, piece: Piece) -> Piece
+    requires { Room piece }
+    ensures { (bytes_in result ≡ shift_from shown element ++ bytes_in piece) × (result.count ≤ 7) }
 {
-    if shown == element {
-        return piece;
-    }
     match element {
-        IN_G0 => in_front(SI, piece),
-        IN_G1 => in_front(SO, piece),
-        IN_G2 => after_escape(FINAL_OF_LS2, piece),
-        _ => after_escape(FINAL_OF_LS3, piece),
+        _ if element == shown => piece,
+        Element::G0 => in_front(SI, piece),
+        Element::G1 => in_front(SO, piece),
+        Element::G2 => after_escape(FINAL_OF_LS2, piece),
+        Element::G3 => after_escape(FINAL_OF_LS3, piece),
     }
 }
 
 // A shift is no unit; nor is what says nothing yet.
-pub(crate) fn is_unit(word: u8) -> bool
-    ensures { result ≡ is_unit word }
+#[tactic(auto, unfolding(crate::specs::Under::is_unit))]
+pub(crate) fn is_unit(word: Word) -> bool
+    ensures { result ≡ is_unit (word_number word) }
 {
-    if word < CHAR_WORD {
-        return false;
-    }
-    word != SHIFT_WORD
+    !matches!(word, Word::NOTHING_YET | Word::SHIFT)
 }

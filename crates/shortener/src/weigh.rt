@@ -4,19 +4,19 @@ ghost use Rattle.std.specs.Prelude.{ℕ, ◌<◌, ◌≤◌, ◌≡◌, List, le
 ghost use Rattle.paper.specs.LentBuffers.{over};
 ghost use Rattle.paper.specs.Conversions.{Accepted};
 ghost use Rattle.shortest.specs.Shortening.{longest_input, shortest_text};
-ghost use Rattle.shortener.specs.Fours.{of_four, four_of, AtMost};
-ghost use Rattle.shortener.specs.Codes.{cost_by, of_opening};
+ghost use Rattle.shortener.specs.ByElements.{at_element, by_element, AtMost};
+ghost use Rattle.shortener.specs.Codes.{cost_by, count_in};
 ghost use Rattle.shortener.specs.Ways as specs;
 ghost use Rattle.shortener.specs.Weighing.{all_codes, opening_more, answer_more, more, put, Bounded, Weighing};
 
-use crate::code::{OF_OPENING, costs_by};
-use crate::four::{Four, ONE_BYTE, TWO_BYTES, lower, lowest, sum};
-use crate::next::next_item;
-use crate::under::{code_of, is_unit};
-use items::item::OPENING_WORD;
+use crate::by_element::{ByElement, shift_length};
+use crate::code::Code;
+use crate::input::Input;
+use crate::under::{Unit, code_of, is_unit};
+use escapes::effect::Word;
 use items::state::{CELLS, change, starting};
 use openings::opening_length;
-use paper::Form;
+use paper::{Element, Form};
 
 // How far a text has been weighed: the place in it, how many units there are, the output up to the last opening, and what it costs since.
 #[derive(Clone, Copy)]
@@ -24,149 +24,131 @@ pub(crate) struct Weighed {
     pub(crate) place: usize,
     pub(crate) count: usize,
     pub(crate) length: usize,
-    pub(crate) ways: Four,
+    pub(crate) ways: ByElement<usize>,
 }
 
 // At the start and after an opening GL shows G0, and one shift leads anywhere else.
-fn first_ways() -> Four
-    ensures { result ≡ four_of specs.first_ways }
+fn first_ways() -> ByElement<usize>
+    ensures { result ≡ by_element specs.first_ways }
 {
-    Four {
-        g0: 0,
-        g1: ONE_BYTE,
-        g2: TWO_BYTES,
-        g3: TWO_BYTES,
-    }
+    ByElement::of(|element| match element {
+        Element::G0 => 0,
+        _ => shift_length(element),
+    })
 }
 
 // With one unit more, and then a shift where that costs less.
-fn further(ways: Four, code: u8) -> Four
-    requires { AtMost 0x10000000 ways }
-    ensures { result ≡ four_of (specs.further (of_four ways) (cost_by code)) }
+fn further(ways: ByElement<usize>, code: Code) -> ByElement<usize>
+    requires { AtMost 0x10000000 ways × (count_in code ≤ 15) }
+    ensures { result ≡ by_element (specs.further (at_element ways) (cost_by code)) }
 {
-    let with = sum(ways, costs_by(code));
-    let least = lowest(with);
-    Four {
-        g0: lower(with.g0, least + ONE_BYTE),
-        g1: lower(with.g1, least + ONE_BYTE),
-        g2: lower(with.g2, least + TWO_BYTES),
-        g3: lower(with.g3, least + TWO_BYTES),
-    }
+    let with = ways.plus(code.costs());
+    let least = with.lowest();
+    ByElement::of(|element| with.at(element).min(least + shift_length(element)))
 }
 
 // An opening.
 fn over_opening(weighed: Weighed, next: usize, work: &mut [u8]) -> Weighed
     requires { Bounded weighed × (weighed.place ≤ longest_input) }
     ensures value { result ≡ more weighed next work.old (opening_more weighed next) }
-    ensures work_after { work.new ≡ put weighed work.old of_opening }
+    ensures work_after { work.new ≡ put weighed work.old Code.Opening }
 {
-    let count = weighed.count;
-    let ways = weighed.ways;
-    if count < work.len() {
-        work[count] = OF_OPENING;
-        return Weighed {
-            place: next,
-            count: count + 1,
-            length: weighed.length,
-            ways: ways,
-        };
-    }
-    let length = weighed.length + lowest(ways) + opening_length(Form::Seven) as usize;
-    Weighed {
+    let on = Weighed {
         place: next,
-        count: count + 1,
-        length: length,
+        count: weighed.count + 1,
+        ..weighed
+    };
+    if weighed.count < work.len() {
+        work[weighed.count] = Code::Opening.packed();
+        return on;
+    }
+    Weighed {
+        length: weighed.length + weighed.ways.lowest() + usize::from(opening_length(Form::Seven)),
         ways: first_ways(),
+        ..on
     }
 }
 
-// An answer that has this code.
-fn over_answer(weighed: Weighed, next: usize, code: u8, work: &mut [u8]) -> Weighed
-    requires { Bounded weighed × (weighed.place ≤ longest_input) }
+// An answer that has this code. It stays beside `over_opening`: in one function the code would be tested again, and only the first half is shared.
+fn over_answer(weighed: Weighed, next: usize, code: Code, work: &mut [u8]) -> Weighed
+    requires { Bounded weighed × (weighed.place ≤ longest_input) × (count_in code ≤ 15) }
     ensures value { result ≡ more weighed next work.old (answer_more weighed next code) }
     ensures work_after { work.new ≡ put weighed work.old code }
 {
-    let count = weighed.count;
-    let ways = weighed.ways;
-    if count < work.len() {
-        work[count] = code;
-        return Weighed {
-            place: next,
-            count: count + 1,
-            length: weighed.length,
-            ways: ways,
-        };
-    }
-    Weighed {
+    let on = Weighed {
         place: next,
-        count: count + 1,
-        length: weighed.length,
-        ways: further(ways, code),
-    }
-}
-
-// The item at a place: a unit of its own, or a shift.
-fn step(
-    form: Form,
-    text: &[u8],
-    state: &mut [u8; CELLS],
-    weighed: Weighed,
-    work: &mut [u8],
-) -> Weighed
-    requires place_in_bounds { (weighed.place < length text.now) × (length text.now ≤ longest_input) }
-    requires by_index { (lent : List ℕ) × Weighing form text.now lent state.old weighed work.old }
-    ensures place_lt_place { weighed.place < result.place }
-    ensures by_index_2 { (lent : List ℕ) →
-        Weighing form text.now lent state.old weighed work.old →
-        Weighing form text.now lent state.new result work.new }
-{
-    let item = next_item(form, state, text, weighed.place);
-    let effect = item.effect;
-    let word = effect.word;
-    if word.0 == OPENING_WORD {
-        *state = starting();
-        return over_opening(weighed, item.place, work);
-    }
-    if is_unit(word.0) {
-        let code = code_of(state, effect, item.piece);
-        change(state, effect);
-        return over_answer(weighed, item.place, code, work);
-    }
-    change(state, effect);
-    let ways = weighed.ways;
-    Weighed {
-        place: item.place,
-        count: weighed.count,
-        length: weighed.length,
-        ways: ways,
-    }
-}
-
-// Over an accepted text: the length of its shortest text where there is no room for codes, or else how many units there are.
-pub(crate) fn weigh(form: Form, text: &[u8], work: &mut [u8]) -> Weighed
-    requires { Accepted form text.now × (length text.now ≤ longest_input) }
-    ensures length_value { length work.old ≡ 0 → result.length ≡ length (shortest_text form text.now) }
-    ensures work_after { length text.now ≤ length work.old →
-        (work.new ≡ over (all_codes form text.now) work.old) ×
-        (result.count ≡ length (all_codes form text.now)) ×
-        (result.count ≤ length text.now) }
-{
-    let mut state = starting();
-    let ways = first_ways();
-    let mut weighed = Weighed {
-        place: 0,
-        count: 0,
-        length: 0,
-        ways: ways,
+        count: weighed.count + 1,
+        ..weighed
     };
-    while weighed.place < text.len() {
-        weighed = step(form, text, &mut state, weighed, work);
+    if weighed.count < work.len() {
+        work[weighed.count] = code.packed();
+        return on;
     }
-    let last = weighed.ways;
     Weighed {
-        place: weighed.place,
-        count: weighed.count,
-        length: weighed.length + lowest(last),
-        ways: last,
+        ways: further(weighed.ways, code),
+        ..on
+    }
+}
+
+impl Input<'_> {
+    // The item at a place: a unit of its own, or a shift.
+    fn weigh_item(self, state: &mut [u8; CELLS], weighed: Weighed, work: &mut [u8]) -> Weighed
+        requires place_in_bounds { weighed.place < length self.text.now }
+        requires by_index { (lent : List ℕ) × Weighing self.form self.text.now lent state.old weighed work.old }
+        ensures place_lt_place { weighed.place < result.place }
+        ensures by_index_2 { let c = self.entry in
+            (lent : List ℕ) →
+            Weighing c.form c.text.now lent state.old weighed work.old →
+            Weighing c.form c.text.now lent state.new result work.new }
+    {
+        let item = self.next_item(state, weighed.place);
+        let effect = item.effect;
+        if effect.word == Word::OPENING {
+            *state = starting();
+            return over_opening(weighed, item.place, work);
+        }
+        if is_unit(effect.word) {
+            let unit = Unit {
+                effect,
+                piece: item.piece,
+            };
+            let code = code_of(state, unit);
+            change(state, effect);
+            return over_answer(weighed, item.place, code, work);
+        }
+        change(state, effect);
+        Weighed {
+            place: item.place,
+            ..weighed
+        }
+    }
+
+    // Over an accepted text: the length of its shortest text where there is no room for codes, or else how many units there are. Each of
+    // the two calls takes one of these numbers; they stay fields of one struct, since one pass counts both.
+    pub(crate) fn weigh(self, work: &mut [u8]) -> Weighed
+        requires { Accepted self.form self.text.now }
+        ensures length_value { let c = self.entry in
+            length work.old ≡ 0 → result.length ≡ length (shortest_text c.form c.text.now) }
+        ensures work_after { let c = self.entry in
+            length c.text.now ≤ length work.old →
+            (work.new ≡ over (all_codes c.form c.text.now) work.old) ×
+            (result.count ≡ length (all_codes c.form c.text.now)) ×
+            (result.count ≤ length c.text.now) }
+    {
+        let mut state = starting();
+        let mut weighed = Weighed {
+            place: 0,
+            count: 0,
+            length: 0,
+            ways: first_ways(),
+        };
+        // a `while`: where the next item begins is known only once this one is read
+        while weighed.place < self.text.len() {
+            weighed = self.weigh_item(&mut state, weighed, work);
+        }
+        Weighed {
+            length: weighed.length + weighed.ways.lowest(),
+            ..weighed
+        }
     }
 }

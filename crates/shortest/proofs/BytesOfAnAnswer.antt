@@ -38,18 +38,8 @@ use Rattle.shortest.specs.ShortestText.{is_shown, is_taken, is_of94, fits, bytes
 -- ---- where an answer can be written
 
 abbrev pub home : Answer → Element
-home Answer.NothingYet = G0
 home (Answer.Char e x p) = e
-home Answer.Space = G0
-home Answer.Delete = G0
-home (Answer.Control w f n) = G0
-home (Answer.DesignateControls w f) = G0
-home (Answer.Designate e x) = G0
-home (Answer.Shift h) = G0
-home (Answer.Other s f) = G0
-home (Answer.Refused r) = G0
-home Answer.Skipped = G0
-home (Answer.InStep n) = G0
+home _ = G0
 
 pub shown_itself : (e : Element) → is_shown e e ≡ true
 shown_itself G0 = refl
@@ -64,18 +54,10 @@ taken_itself G2 = refl
 taken_itself G3 = refl
 
 pub fits_at_home : (a : Answer) (t : Sets) → t.g0.kind ≡ Of94 → fits t (home a) a ≡ true
-fits_at_home Answer.NothingYet t g0 = refl
 fits_at_home (Answer.Char e x p) t g0 = taken_itself e
 fits_at_home Answer.Space t g0 = ap is_of94 g0
 fits_at_home Answer.Delete t g0 = ap is_of94 g0
-fits_at_home (Answer.Control w f n) t g0 = refl
-fits_at_home (Answer.DesignateControls w f) t g0 = refl
-fits_at_home (Answer.Designate e x) t g0 = refl
-fits_at_home (Answer.Shift h) t g0 = refl
-fits_at_home (Answer.Other s f) t g0 = refl
-fits_at_home (Answer.Refused r) t g0 = refl
-fits_at_home Answer.Skipped t g0 = refl
-fits_at_home (Answer.InStep n) t g0 = refl
+fits_at_home _ t g0 = refl
 
 -- ---- how many bytes there are
 
@@ -90,21 +72,14 @@ sequence_length (Intermediates.One i) f = omega arith
 sequence_length (Intermediates.Two i j) f = omega arith
 
 pub short_at_home : (a : Answer) → length (bytes_under (home a) a) ≤ 4
-short_at_home Answer.NothingYet = omega arith
 short_at_home (Answer.Char e x p) =
     subst (λ (t : Bool). length (t gives map (byte_from GraphicArea.GL) (position_values p) or character_bytes Form.Seven e p) ≤ 4)
     (sym (shown_itself e)) (omega (arith, position_length p))
-short_at_home Answer.Space = omega arith
-short_at_home Answer.Delete = omega arith
 short_at_home (Answer.Control ControlElement.C0 f n) = omega arith
 short_at_home (Answer.Control ControlElement.C1 f n) = omega arith
-short_at_home (Answer.DesignateControls w f) = omega arith
 short_at_home (Answer.Designate e x) = sequence_length (intermediates_of x.count x.kind e x.last) x.last
-short_at_home (Answer.Shift h) = omega arith
 short_at_home (Answer.Other s f) = sequence_length s f
-short_at_home (Answer.Refused r) = omega arith
-short_at_home Answer.Skipped = omega arith
-short_at_home (Answer.InStep n) = omega arith
+short_at_home _ = omega arith
 
 -- ---- how they begin
 
@@ -197,6 +172,4 @@ clear_bytes (Answer.DesignateControls ControlElement.C1 f) t gl stays h = clear_
 clear_bytes (Answer.Designate e x) t gl stays h = clear_designation x.count x.kind e x.last
 clear_bytes (Answer.Shift s) t gl stays h = impossible (cc)
 clear_bytes (Answer.Other s f) t gl stays h = clear_other s f h.ends h.leads (h.other Form.Seven)
-clear_bytes (Answer.Refused r) t gl stays h = absurd h
-clear_bytes Answer.Skipped t gl stays h = absurd h
-clear_bytes (Answer.InStep n) t gl stays h = absurd h
+clear_bytes _ t gl stays h = absurd h

@@ -21,8 +21,6 @@ use Rattle.paper.specs.declared.Standing.{Standing}
 use Rattle.paper.specs.declared.Reader.{Reader}
 use Rattle.paper.specs.declared.Answer.{Answer}
 use Rattle.paper.specs.declared.Answered.{Answered}
-use Rattle.paper.specs.declared.FirstRefusal.{FirstRefusal}
-use Rattle.paper.specs.declared.FirstRefusal.TheVariants.{Never}
 use Rattle.paper.proofs.Choices.{impossible}
 use Rattle.paper.proofs.LawfulAnswers.{IsInStep}
 use Rattle.paper.proofs.AnswersWithoutTheRecord.{answer_of, record_of, answers_alike}
@@ -38,6 +36,8 @@ use Rattle.shortest.specs.ShortestText.{shift_to, shortest_from}
 use Rattle.shortest.proofs.TextsInOrder.{nothing_first, not_after_itself, not_after_on, not_after_both}
 use Rattle.shortest.proofs.NoBetterByAShift.{answer_first, no_better_by_a_shift}
 use Rattle.shortest.proofs.ReadInSevenBits.{Came, Outcome, waiting, shifting, saying, refusing, after_byte}
+use Rattle.std.specs.Prelude.{Option, None}
+use Rattle.paper.specs.declared.Refused.{Refused}
 
 -- the steps of what is read, and that their text comes first, whatever has been read since the last answer
 pub record First (t : Sets) (gl : Element) (w : Within) (text : List ℕ) (l : List Entry) : Type 0 where
@@ -56,7 +56,7 @@ pub record InSeven (r : Reader) (w : Within) : Type 0 where
 
 -- of a text from a reader: where it refuses nothing
 abbrev pub ComesFirst : Reader → List ℕ → List Entry → Type 0
-ComesFirst r text l = (w : Within) → InSeven r w → (at : ℕ) → first_refusal (answers_from at r text) ≡ Never → First r.sets r.gl w text l
+ComesFirst r text l = (w : Within) → InSeven r w → (at : ℕ) → first_refusal (answers_from at r text) ≡ None → First r.sets r.gl w text l
 
 -- ---- the end
 
@@ -69,17 +69,8 @@ at_end r w here at never = record { steps = ended; is = refl; all = tt; first = 
 -- what is left out changes no set
 pub sets_stay : (a : Answer) (t : Sets) → left_out a ≡ true → sets_with t a ≡ t
 sets_stay Answer.NothingYet t h = refl
-sets_stay (Answer.Char e x p) t h = impossible (cc)
-sets_stay Answer.Space t h = impossible (cc)
-sets_stay Answer.Delete t h = impossible (cc)
-sets_stay (Answer.Control w f n) t h = impossible (cc)
-sets_stay (Answer.DesignateControls w f) t h = impossible (cc)
-sets_stay (Answer.Designate e x) t h = impossible (cc)
 sets_stay (Answer.Shift s) t h = refl
-sets_stay (Answer.Other s f) t h = impossible (cc)
-sets_stay (Answer.Refused n) t h = impossible (cc)
-sets_stay Answer.Skipped t h = impossible (cc)
-sets_stay (Answer.InStep n) t h = impossible (cc)
+sets_stay _ t h = impossible (cc)
 
 abbrev within_of : Standing → Within
 within_of (Standing.InStep w) = w
@@ -149,11 +140,11 @@ in_step : {r : Reader} {w : Within} → InSeven r w → IsInStep r.standing
 in_step here = subst IsInStep (sym here.stands) tt
 
 module _ (r : Reader) (b : ℕ) (bs : List ℕ) (l : List Entry) (more : ComesFirst (answer_of r b).reader bs l) (w : Within) (here : InSeven r w)
-    (at : ℕ) (never : first_refusal (answers_from at r (b ∷ bs)) ≡ Never) where
+    (at : ℕ) (never : first_refusal (answers_from at r (b ∷ bs)) ≡ None) where
   abbrev x : Answered
   x = answer_of r b
 
-  abbrev later : FirstRefusal
+  abbrev later : Option Refused
   later = first_refusal (answers_from (suc at) (answer_to r b).reader bs)
 
   ok : NotRefused x.answer
@@ -167,7 +158,7 @@ module _ (r : Reader) (b : ℕ) (bs : List ℕ) (l : List Entry) (more : ComesFi
   unfolding answer_to
   sets_are = sets_by_the_answer r b (in_step here)
 
-  refuses_nothing : first_refusal (answers_from (suc at) x.reader bs) ≡ Never
+  refuses_nothing : first_refusal (answers_from (suc at) x.reader bs) ≡ None
   unfolding answer_to
   refuses_nothing =
       ap first_refusal (answers_alike bs (suc at) x.reader.gone (record_of r b) x.reader) ∙
@@ -216,8 +207,8 @@ module _ (r : Reader) (rest : List ℕ) (l : List Entry) (w : Within) (here : In
   as_grounded : recording 0 r ≡ grounded
   as_grounded i = record { form = here.form i; sets = r.sets; gl = r.gl; gr = here.right i; gone = 0; standing = ground i }
 
-  opening_refuses_nothing : (at : ℕ) → first_refusal (answers_from at r text) ≡ Never →
-      first_refusal (answers_from (past at (opening Form.Seven)) (started Form.Seven) rest) ≡ Never
+  opening_refuses_nothing : (at : ℕ) → first_refusal (answers_from at r text) ≡ None →
+      first_refusal (answers_from (past at (opening Form.Seven)) (started Form.Seven) rest) ≡ None
   opening_refuses_nothing at never =
       sym (refused_after Form.Seven r.sets r.gl G1 at rest (λ seven. refl)) ∙
       ap (λ (y : Reader). first_refusal (answers_from at y text)) (sym as_grounded) ∙
@@ -240,9 +231,9 @@ at_start = record { form = refl; right = refl; stands = refl; so_far = tt; g0 = 
 opening_first : (r : Reader) (rest : List ℕ) (l : List Entry) → r.standing ≡ Standing.InStep Within.Ground → ShowsG1 r →
     ComesFirst (started r.form) rest l → ComesFirst r (opening r.form ++ rest) (with_opening l)
 opening_first r rest l ground shows more w here =
-    subst (λ (v : Within). (at : ℕ) → first_refusal (answers_from at r (opening r.form ++ rest)) ≡ Never →
+    subst (λ (v : Within). (at : ℕ) → first_refusal (answers_from at r (opening r.form ++ rest)) ≡ None →
     First r.sets r.gl v (opening r.form ++ rest) (with_opening l)) (ap within_of (sym ground ∙ here.stands))
-    (subst (λ (m : Form). ComesFirst (started m) rest l → (at : ℕ) → first_refusal (answers_from at r (opening m ++ rest)) ≡ Never →
+    (subst (λ (m : Form). ComesFirst (started m) rest l → (at : ℕ) → first_refusal (answers_from at r (opening m ++ rest)) ≡ None →
     First r.sets r.gl Within.Ground (opening m ++ rest) (with_opening l)) (sym here.form)
     (λ after at never.
     opened_first r rest l w here ground (after Within.Ground at_start (past at (opening Form.Seven))
@@ -250,7 +241,7 @@ opening_first r rest l ground shows more w here =
 
 -- ---- a text
 
-pub none_comes_before : (text : List ℕ) → first_refusal (answers_from 0 (started Form.Seven) text) ≡ Never →
+pub none_comes_before : (text : List ℕ) → first_refusal (answers_from 0 (started Form.Seven) text) ≡ None →
     First starting_sets G0 Within.Ground text (sequence_from (started Form.Seven) text)
 none_comes_before text never =
     by_openings ComesFirst at_end byte_first opening_first text (started Form.Seven) (λ seven. refl) Within.Ground at_start 0 never

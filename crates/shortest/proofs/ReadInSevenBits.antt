@@ -221,18 +221,14 @@ module _ (t : Sets) (gl : Element) (b : ℕ) where
   Means s NoMeaning = Unit {0}
   Means s Meaning.Other = Unit {0}
   Means s (Function n) = sequence_bytes s b ≡ function_bytes Form.Seven n
-  Means s (Shifts Shift.LS0) = ⊥
-  Means s (Shifts Shift.LS1) = ⊥
   Means s (Shifts Shift.LS2) = sequence_bytes s b ≡ shift_to G2
   Means s (Shifts Shift.LS3) = sequence_bytes s b ≡ shift_to G3
-  Means s (Shifts Shift.LS1R) = ⊥
-  Means s (Shifts Shift.LS2R) = ⊥
-  Means s (Shifts Shift.LS3R) = ⊥
   Means s (Shifts Shift.SS2) = sequence_bytes s b ≡ single_shift Form.Seven G2
   Means s (Shifts Shift.SS3) = sequence_bytes s b ≡ single_shift Form.Seven G3
   Means s (Meaning.DesignateControls w) = sequence_bytes s b ≡ sequence_bytes (Intermediates.One (intermediate_of_controls w)) b
   Means s (Meaning.Designate e k n) =
       NotAfter (designation_bytes e (record { kind = k; count = n; last = b })) (sequence_bytes s b)
+  Means s (Shifts _) = ⊥
 
   with_final : (s : Intermediates) → so_far_lem s ++ (b ∷ []) ≡ sequence_bytes s b
   with_final Intermediates.None = refl
@@ -244,18 +240,14 @@ module _ (t : Sets) (gl : Element) (b : ℕ) where
   after_means NoMeaning s h = refusing Refusal.WithoutMeaning refl
   after_means Meaning.Other s h = saying refl refl refl refl (not_after_itself _)
   after_means (Function n) s h = saying refl refl refl refl (subst (λ (l : List ℕ). NotAfter l (sequence_bytes s b)) h (not_after_itself _))
-  after_means (Shifts Shift.LS0) s h = absurd h
-  after_means (Shifts Shift.LS1) s h = absurd h
   after_means (Shifts Shift.LS2) s h = shifting G2 refl refl refl h
   after_means (Shifts Shift.LS3) s h = shifting G3 refl refl refl h
-  after_means (Shifts Shift.LS1R) s h = absurd h
-  after_means (Shifts Shift.LS2R) s h = absurd h
-  after_means (Shifts Shift.LS3R) s h = absurd h
   after_means (Shifts Shift.SS2) s h = waiting (Within.SingleShift G2) refl refl refl (h, tt)
   after_means (Shifts Shift.SS3) s h = waiting (Within.SingleShift G3) refl refl refl (h, tt)
   after_means (Meaning.DesignateControls w) s h =
       saying refl refl refl refl (subst (λ (l : List ℕ). NotAfter l (sequence_bytes s b)) h (not_after_itself _))
   after_means (Meaning.Designate e k n) s h = saying refl refl refl refl h
+  after_means (Shifts _) s h = absurd h
 
   -- ESC F
   means_shift : Means Intermediates.None (shift_or_other Form.Seven b)
@@ -293,11 +285,8 @@ module _ (t : Sets) (gl : Element) (b : ℕ) where
   -- a designation by its intermediate
   abbrev Designated : ℕ → Count → Meaning → Type 0
   Designated i n NoMeaning = Unit {0}
-  Designated i n Meaning.Other = ⊥
-  Designated i n (Function k) = ⊥
-  Designated i n (Shifts h) = ⊥
-  Designated i n (Meaning.DesignateControls w) = ⊥
   Designated i n (Meaning.Designate e k m) = (i ≡ intermediate_of k e) × (m ≡ n)
+  Designated i n _ = ⊥
 
   designated_by : (i : ℕ) (n : Count) → Designated i n (designation i n)
   unfolding designation
@@ -322,15 +311,12 @@ module _ (t : Sets) (gl : Element) (b : ℕ) where
 
   means_designation : (w : Meaning) (i : ℕ) (n : Count) → Designated i n w → Means (intermediates_as n i) w
   means_designation NoMeaning i n h = tt
-  means_designation Meaning.Other i n h = absurd h
-  means_designation (Function k) i n h = absurd h
-  means_designation (Shifts s) i n h = absurd h
-  means_designation (Meaning.DesignateControls w) i n h = absurd h
   means_designation (Meaning.Designate e k m) i n h =
       subst (λ (j : ℕ). NotAfter (designation_bytes e (record { kind = k; count = m; last = b })) (sequence_bytes (intermediates_as n j) b))
       (sym h.0)
       (subst (λ (c : Count). NotAfter (designation_bytes e (record { kind = k; count = m; last = b }))
       (sequence_bytes (intermediates_as c (intermediate_of k e)) b)) h.1 (designation_first m k e))
+  means_designation _ i n h = absurd h
 
   -- ESC I F
   means_short : Means (Intermediates.One several) (short_designation b)

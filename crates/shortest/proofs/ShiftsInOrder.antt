@@ -20,41 +20,22 @@ second_lower : (a b : ℕ) (x y : List ℕ) → a ≡ b → InByteOrder x y → 
 second_lower a b x y e h = subst (λ (n : ℕ). InByteOrder (a ∷ x) (n ∷ y)) e (alike h)
 
 pub shifts_in_order : (e k : Element) (x y : List ℕ) → rank (shift_to e) < rank (shift_to k) → InByteOrder (shift_to e ++ x) (shift_to k ++ y)
-shifts_in_order G0 G0 x y h = absurd (omega arith)
-shifts_in_order G0 G1 x y h = absurd (omega arith)
 shifts_in_order G0 G2 x y h = first_lower si esc _ _ (omega arith)
 shifts_in_order G0 G3 x y h = first_lower si esc _ _ (omega arith)
 shifts_in_order G1 G0 x y h = first_lower so si _ _ (omega arith)
-shifts_in_order G1 G1 x y h = absurd (omega arith)
 shifts_in_order G1 G2 x y h = first_lower so esc _ _ (omega arith)
 shifts_in_order G1 G3 x y h = first_lower so esc _ _ (omega arith)
-shifts_in_order G2 G0 x y h = absurd (omega arith)
-shifts_in_order G2 G1 x y h = absurd (omega arith)
-shifts_in_order G2 G2 x y h = absurd (omega arith)
 shifts_in_order G2 G3 x y h = alike (first_lower final_of_ls2 final_of_ls3 _ _ (omega arith))
-shifts_in_order G3 G0 x y h = absurd (omega arith)
-shifts_in_order G3 G1 x y h = absurd (omega arith)
-shifts_in_order G3 G2 x y h = absurd (omega arith)
 shifts_in_order G3 G3 x y h = absurd (omega arith)
+shifts_in_order _ _ x y h = absurd (omega arith)
 
 -- two shifts that rank alike are one
 pub one_shift_of_a_rank : (e k : Element) → rank (shift_to e) ≡ rank (shift_to k) → e ≡ k
 one_shift_of_a_rank G0 G0 h = refl
-one_shift_of_a_rank G0 G1 h = absurd (omega arith)
-one_shift_of_a_rank G0 G2 h = absurd (omega arith)
-one_shift_of_a_rank G0 G3 h = absurd (omega arith)
-one_shift_of_a_rank G1 G0 h = absurd (omega arith)
 one_shift_of_a_rank G1 G1 h = refl
-one_shift_of_a_rank G1 G2 h = absurd (omega arith)
-one_shift_of_a_rank G1 G3 h = absurd (omega arith)
-one_shift_of_a_rank G2 G0 h = absurd (omega arith)
-one_shift_of_a_rank G2 G1 h = absurd (omega arith)
 one_shift_of_a_rank G2 G2 h = refl
-one_shift_of_a_rank G2 G3 h = absurd (omega arith)
-one_shift_of_a_rank G3 G0 h = absurd (omega arith)
-one_shift_of_a_rank G3 G1 h = absurd (omega arith)
-one_shift_of_a_rank G3 G2 h = absurd (omega arith)
 one_shift_of_a_rank G3 G3 h = refl
+one_shift_of_a_rank _ _ h = absurd (omega arith)
 
 -- an answer's bytes that rank before LS2 or LS3: a lower byte, or ESC and a lower one
 escape_after : (b d f : ℕ) (x y : List ℕ) → d < 0x100 → f < 0x100 → b * 0x100 + d < esc * 0x100 + f →

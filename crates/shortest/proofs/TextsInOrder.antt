@@ -12,12 +12,9 @@ itself_in_order : (x : List ℕ) → InByteOrder x x
 itself_in_order [] = nothing
 itself_in_order (a ∷ x) = alike (itself_in_order x)
 
-lower_still : {a b c : ℕ} → a < b → b < c → a < c
-lower_still h k = omega arith
-
 on_in_order : {x y z : List ℕ} → InByteOrder x y → InByteOrder y z → InByteOrder x z
 on_in_order nothing q = nothing
-on_in_order (lower h) (lower k) = lower (lower_still h k)
+on_in_order (lower h) (lower k) = lower (omega arith)
 on_in_order (lower h) (alike q) = lower h
 on_in_order (alike p) (lower k) = lower k
 on_in_order (alike p) (alike q) = alike (on_in_order p q)

@@ -81,9 +81,7 @@ module _ (t : Sets) where
     answer_reads (Answer.Designate e x) stays can fit more = reads_back t gl bs l (Answer.Designate e x) Form.Seven refl can tt more
     answer_reads (Answer.Shift s) stays can fit more = impossible (cc)
     answer_reads (Answer.Other s f) stays can fit more = reads_back t gl bs l (Answer.Other s f) Form.Seven refl can tt more
-    answer_reads (Answer.Refused r) stays can fit more = absurd can
-    answer_reads Answer.Skipped stays can fit more = absurd can
-    answer_reads (Answer.InStep n) stays can fit more = absurd can
+    answer_reads _ stays can fit more = absurd can
 
     -- ---- a locking shift
 

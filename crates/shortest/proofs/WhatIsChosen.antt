@@ -31,21 +31,10 @@ use Rattle.shortest.proofs.BytesOfAnAnswer.{home, shown_itself, fits_at_home, sh
 
 pub shown_is : (gl e : Element) → is_shown gl e ≡ true → gl ≡ e
 shown_is G0 G0 h = refl
-shown_is G0 G1 h = impossible (cc)
-shown_is G0 G2 h = impossible (cc)
-shown_is G0 G3 h = impossible (cc)
-shown_is G1 G0 h = impossible (cc)
 shown_is G1 G1 h = refl
-shown_is G1 G2 h = impossible (cc)
-shown_is G1 G3 h = impossible (cc)
-shown_is G2 G0 h = impossible (cc)
-shown_is G2 G1 h = impossible (cc)
 shown_is G2 G2 h = refl
-shown_is G2 G3 h = impossible (cc)
-shown_is G3 G0 h = impossible (cc)
-shown_is G3 G1 h = impossible (cc)
-shown_is G3 G2 h = impossible (cc)
 shown_is G3 G3 h = refl
+shown_is _ _ h = impossible (cc)
 
 module _ (c : Element → ℕ) (gl : Element) (bytes : List ℕ) where
   abbrev pub best : Element

@@ -5,7 +5,7 @@ ghost use Rattle.std.specs.Prelude.{◌≡◌};
 ghost use Rattle.paper.specs.Starting.{started};
 ghost use Rattle.paper.specs.Marks.{recording};
 ghost use Rattle.paper.specs.Characters.{standing_at};
-ghost use Rattle.paper.specs.Answering.{end_within, end_of_text};
+ghost use Rattle.paper.specs.Answering.{end_of_text};
 
 use paper::{Element, EndWord, Form, Reader, Standing, Within};
 
@@ -13,10 +13,9 @@ use paper::{Element, EndWord, Form, Reader, Standing, Within};
 pub fn start(form: Form) -> Reader
     ensures { result ≡ started form }
 {
-    let sets = charsets::starting_sets();
     Reader {
-        form: form,
-        sets: sets,
+        form,
+        sets: charsets::starting_sets(),
         gl: Element::G0,
         gr: Element::G1,
         gone: 0,
@@ -28,58 +27,23 @@ pub fn start(form: Form) -> Reader
 pub fn standing_at(standing: Standing, reader: Reader) -> Reader
     ensures { result ≡ standing_at standing reader }
 {
-    let form = reader.form;
-    let sets = reader.sets;
-    let gl = reader.gl;
-    let gr = reader.gr;
-    let gone = reader.gone;
-    Reader {
-        form: form,
-        sets: sets,
-        gl: gl,
-        gr: gr,
-        gone: gone,
-        standing: standing,
-    }
+    Reader { standing, ..reader }
 }
 
 // The reader that has recorded so much of the opening.
 pub fn recording(gone: u8, reader: Reader) -> Reader
     ensures { result ≡ recording gone reader }
 {
-    let form = reader.form;
-    let sets = reader.sets;
-    let left = reader.gl;
-    let right = reader.gr;
-    let stands = reader.standing;
-    Reader {
-        form: form,
-        sets: sets,
-        gl: left,
-        gr: right,
-        gone: gone,
-        standing: stands,
-    }
+    Reader { gone, ..reader }
 }
 
 // Whether a text that ends here is whole, ends inside, or is lost.
 pub fn end_word(reader: Reader) -> EndWord
     ensures { result ≡ end_of_text reader }
 {
-    let standing = reader.standing;
-    match standing {
-        Standing::InStep(within) => end_within(within),
+    match reader.standing {
+        Standing::InStep(Within::Ground) => EndWord::Whole,
+        Standing::InStep(_) => EndWord::Inside,
         Standing::Lost { .. } => EndWord::Lost,
-    }
-}
-
-fn end_within(within: Within) -> EndWord
-    ensures { result ≡ end_within within }
-{
-    match within {
-        Within::Ground => EndWord::Whole,
-        Within::Sequence(_) => EndWord::Inside,
-        Within::SingleShift(_) => EndWord::Inside,
-        Within::Character(_, _, _) => EndWord::Inside,
     }
 }

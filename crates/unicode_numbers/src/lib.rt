@@ -1,22 +1,22 @@
 // The Unicode numbers of Latin/Greek: 94 F 4/2 and 96 F 4/6, there and back.
 #![tactic(auto)]
 
-ghost use Rattle.std.specs.Prelude.{◌≡◌, ◌+◌, ◌≤◌};
+ghost use Rattle.std.specs.Prelude.{◌≡◌, ◌+◌, ◌≤◌, None};
 ghost use Rattle.paper.specs.CodeTable.{bit8};
 ghost use Rattle.paper.specs.Sets.{space, delete};
 ghost use Rattle.paper.specs.LatinGreek.{greek_number, number_by, number_in, position_with, unicode_of, locate};
 ghost use Rattle.unicode_numbers.specs.Lookup.{entry_of, greek_byte};
 
-use charsets::{GREEK_FINAL, LATIN_FINAL, SPACE, set_byte};
+use charsets::{SPACE, set_byte};
 use codetable::{byte_at, position_of};
-use paper::{Column, Count, Kind, Located, Made, Numbered, Row, Set, SetByte};
+use paper::{Column, Count, Located, Row, Set, SetByte};
 
 // What a byte of GR has more than its position byte, and what a Greek letter's number has more than its byte.
 const BIT_8: u32 = 0x80;
 
 const LETTERS: u32 = 0x2D0;
 
-// The entry of a position that has no character.
+// The entry of a position that has no character. A number, not `None`: with `Some(..)` around the others the table would be no plainer.
 const UNUSED: u16 = 0;
 
 // 96 F 4/6 from 2/0 to 7/15, as tools/greek-table prints it.
@@ -33,79 +33,54 @@ const NUMBERS: [u16; 96] = [
 
 // An entry of the table as an answer.
 #[tactic(auto, using(paper::proofs::Tests::tests), unfolding(crate::specs::Lookup::entry_of))]
-fn entry_of(number: u16) -> Numbered
+fn entry_of(number: u16) -> Option<u32>
     ensures { result ≡ entry_of number }
 {
-    if number == UNUSED {
-        Numbered::NoNumber
-    } else {
-        Numbered::Number(number as u32)
-    }
+    (number != UNUSED).then_some(u32::from(number))
 }
 
 // The number at a position byte of 96 F 4/6.
-fn greek_number(byte: u8) -> Numbered
+#[tactic(auto, using(crate::proofs::Table::entry_at))]
+fn greek_number(byte: u8) -> Option<u32>
     requires { (space ≤ byte) × (byte ≤ delete) }
     ensures { result ≡ greek_number (bit8 + byte) }
 {
-    let index = (byte - SPACE) as usize;
-    entry_of(NUMBERS[index])
+    entry_of(NUMBERS[usize::from(byte - SPACE)])
 }
 
 // The number at a position byte of a set, by the set's size and Final Byte.
 #[tactic(auto, using(paper::proofs::Tests::tests))]
-fn number_by(count: Count, kind: Kind, last: u8, byte: u8) -> Numbered
+fn number_by(set: Set, byte: u8) -> Option<u32>
     requires { (space ≤ byte) × (byte ≤ delete) }
-    ensures { result ≡ number_by count kind last byte }
+    ensures { result ≡ number_by set.count set.kind set.last byte }
 {
-    match count {
-        Count::One => match kind {
-            Kind::Of94 => {
-                if last == LATIN_FINAL {
-                    Numbered::Number(byte as u32)
-                } else {
-                    Numbered::NoNumber
-                }
-            }
-            Kind::Of96 => {
-                if last == GREEK_FINAL {
-                    greek_number(byte)
-                } else {
-                    Numbered::NoNumber
-                }
-            }
-        },
-        Count::Two => Numbered::NoNumber,
-        Count::Three => Numbered::NoNumber,
+    if set == charsets::latin() {
+        Some(u32::from(byte))
+    } else if set == charsets::greek() {
+        greek_number(byte)
+    } else {
+        None
     }
 }
 
 // The number that a set has at a byte, where that is a position of it.
-#[tactic(auto, unfolding(paper::specs::LatinGreek::number_in))]
-fn number_in(set: Set, byte: u8) -> Numbered
+#[tactic(auto, using(paper::proofs::ThereAndBack::inside), unfolding(paper::specs::LatinGreek::number_in))]
+fn number_in(set: Set, byte: u8) -> Option<u32>
     ensures { result ≡ number_in set byte }
 {
-    let count = set.count;
-    let kind = set.kind;
-    match set_byte(kind, byte) {
-        SetByte::OfSpace => Numbered::NoNumber,
-        SetByte::OfDelete => Numbered::NoNumber,
-        SetByte::OfSet => number_by(count, kind, set.last, byte),
-        SetByte::Outside => Numbered::NoNumber,
+    match set_byte(set.kind, byte) {
+        SetByte::OfSet => number_by(set, byte),
+        _ => None,
     }
 }
 
 // Lookup there: the number of a set's position, given by its number of bytes, its column and its row.
-pub fn unicode_of(set: Set, count: Count, column: Column, row: Row) -> Numbered
+pub fn unicode_of(set: Set, count: Count, column: Column, row: Row) -> Option<u32>
     ensures { result ≡ unicode_of set count column row }
 {
     match count {
-        Count::One => match byte_at(column, row) {
-            Made::Byte(byte) => number_in(set, byte),
-            Made::NoPosition => Numbered::NoNumber,
-        },
-        Count::Two => Numbered::NoNumber,
-        Count::Three => Numbered::NoNumber,
+        Count::One => number_in(set, byte_at(column, row)?),
+        _ => None,
     }
 }
 
@@ -118,42 +93,25 @@ fn greek_byte(number: u32) -> u8
         0x2018 => 0x21,
         0x2019 => 0x22,
         0x2015 => 0x2F,
-        _ => {
-            if LETTERS <= number {
-                ((number - LETTERS) % BIT_8) as u8
-            } else {
-                (number % BIT_8) as u8
-            }
-        }
+        LETTERS.. => ((number - LETTERS) % BIT_8) as u8,
+        _ => (number % BIT_8) as u8,
     }
 }
 
-// The set's position at a byte, where it has the number, else another answer.
-#[tactic(auto, using(paper::proofs::Tests::tests))]
-fn position_with(number: u32, set: Set, byte: u8, other: Located) -> Located
-    ensures { result ≡ position_with number set byte other }
+// The set's position at a byte, where it has the number.
+fn position_with(number: u32, set: Set, byte: u8) -> Option<Located>
+    ensures { result ≡ position_with number set byte None }
 {
-    match number_in(set, byte) {
-        Numbered::Number(found) => {
-            if found == number {
-                Located::At(set, position_of(byte))
-            } else {
-                other
-            }
-        }
-        Numbered::NoNumber => other,
-    }
+    (number_in(set, byte) == Some(number)).then(|| Located {
+        set,
+        position: position_of(byte),
+    })
 }
 
 // Lookup back: the position that has the number.
-pub fn locate(number: u32) -> Located
+pub fn locate(number: u32) -> Option<Located>
     ensures { result ≡ locate number }
 {
-    let in_greek = position_with(
-        number,
-        charsets::greek(),
-        greek_byte(number),
-        Located::Nowhere,
-    );
-    position_with(number, charsets::latin(), (number % BIT_8) as u8, in_greek)
+    let in_latin = position_with(number, charsets::latin(), (number % BIT_8) as u8);
+    in_latin.or_else(|| position_with(number, charsets::greek(), greek_byte(number)))
 }

@@ -11,5 +11,5 @@ returns-in-InStep c =
 
 pub returns-in-Lost : goal.returns-in-Lost
 returns-in-Lost c =
-    (rw (c.answer_lost-answered.ensures, c.recording-plain.ensures) at c.with_record.ensures) ∙
+    (rw (c.answer_lost.ensures, c.recording-plain.ensures) at c.with_record.ensures) ∙
     lost_answers _ _ _ _ c.in-Lost.is

@@ -1,25 +1,13 @@
--- The invariant: as many bytes as turns are zero, and after them stand those from before.
-use Prim.Native.Nat.{ℕ}
-use mathlib.Core.Path.{◌≡◌, ap, ◌∙◌}
-use mathlib.Core.List.{List, ◌++◌}
-use native.Mathlib.Omega.{arith}
-use borrow.Author.Fill.{fill_more}
-use lib.ListN.{drop, replicate, set, length-set}
+-- As many zeros as there is room for in the part.
+use Rattle.std.proofs.Common.{◌≡◌, ℕ, ◌≤◌, List, ◌++◌, length, take, drop, replicate, ap, ◌∙◌, rules}
+use lib.Seq.{length-take-le}
 use Rattle.shortest.specs.Shortening.{work_length}
 use Rattle.shortener.proofs.clear.Goals as goal
 
-pub loop-next-preserved : goal.loop-next-preserved
-loop-next-preserved c =
-    let l = c.loop-next in
-    let d : List ℕ = c.args.work.now in (
-      omega arith,
-      length-set l.work l.next _ ∙ l.invariant.1,
-      ap (λ (w : List ℕ). set w l.next 0) l.invariant.2 ∙ fill_more l.next 0 d (omega arith),
-    )
+filled : (part work : List ℕ) → part ≡ replicate (length (take work_length work)) 0 → work_length ≤ length work →
+    part ++ drop work_length work ≡ replicate work_length 0 ++ drop work_length work
+filled part work is room =
+    ap (λ (l : List ℕ). l ++ drop work_length work) (is ∙ ap (λ (n : ℕ). replicate n 0) (length-take-le work_length work room))
 
 pub returns : goal.returns
-returns c =
-    let l = c.loop-next in
-    let d : List ℕ = c.args.work.now in
-    let e : l.next ≡ work_length = omega arith in
-    l.invariant.2 ∙ ap (λ (n : ℕ). replicate n 0 ++ drop n d) e
+returns c = filled _ c.args.work.now (c.fill.ensures.after (λ y e. search rules)) c.requires

@@ -4,33 +4,25 @@ use Rattle.items.proofs.InsideSequences.{past_the_end_lem, below_intermediates, 
 use Rattle.items.proofs.sequence.after_two.Goals as goal
 
 pub returns-then-place-text : goal.returns-then-place-text
-returns-then-place-text c = (c.refused.ensures.0 ∙ past_the_end_lem _ _ _ _ _ c.if-place-text.true, c.refused.ensures.1)
+returns-then-place-text c = c.refused.ensures ∙ past_the_end_lem _ _ _ _ _ c.if-place-text.true
 
 pub returns-then-byte-lt-FIRST_INTERMEDIATE : goal.returns-then-byte-lt-FIRST_INTERMEDIATE
-returns-then-byte-lt-FIRST_INTERMEDIATE c = (
-  c.not_of_sequence.ensures.0 ∙
-      below_intermediates _ _ _ _ _ c.if-place-text.false c.if-byte-lt-FIRST_INTERMEDIATE.true,
-  c.not_of_sequence.ensures.1,
-)
+returns-then-byte-lt-FIRST_INTERMEDIATE c =
+    c.not_of_sequence.ensures ∙
+    below_intermediates _ _ _ _ _ c.if-place-text.false c.if-byte-lt-FIRST_INTERMEDIATE.true
 
 pub returns-then-byte-le-LAST_INTERMEDIATE : goal.returns-then-byte-le-LAST_INTERMEDIATE
-returns-then-byte-le-LAST_INTERMEDIATE c = (
-  c.refused-then-byte-le-LAST_INTERMEDIATE.ensures.0 ∙
-      goes_on _ _ _ _ _ c.if-place-text.false c.if-byte-lt-FIRST_INTERMEDIATE.false c.if-byte-le-LAST_INTERMEDIATE.true,
-  c.refused-then-byte-le-LAST_INTERMEDIATE.ensures.1,
-)
+returns-then-byte-le-LAST_INTERMEDIATE c =
+    c.refused-then-byte-le-LAST_INTERMEDIATE.ensures ∙
+    goes_on _ _ _ _ _ c.if-place-text.false c.if-byte-lt-FIRST_INTERMEDIATE.false c.if-byte-le-LAST_INTERMEDIATE.true
 
 pub returns-then-byte-le-LAST_FINAL : goal.returns-then-byte-le-LAST_FINAL
 returns-then-byte-le-LAST_FINAL c =
-    let ended = c.before.before.before in (
-      (rw (c.effect_of_two-effect.ensures, c.piece_of_several.ensures.0) at c.meant.ensures.0) ∙
-          ends_there _ _ _ _ _ ended.if-place-text.false ended.if-byte-le-LAST_INTERMEDIATE.false ended.if-byte-le-LAST_FINAL.true,
-      c.meant.ensures.1,
-    )
+    let ended = c.before.before.before in
+    (rw (c.effect_of_two-effect.ensures, c.piece_of_several.ensures.0) at c.meant.ensures) ∙
+    ends_there _ _ _ _ _ ended.if-place-text.false ended.if-byte-le-LAST_INTERMEDIATE.false ended.if-byte-le-LAST_FINAL.true
 
 pub returns : goal.returns
-returns c = (
-  c.not_of_sequence-2.ensures.0 ∙
-      above_finals _ _ _ _ _ c.if-place-text.false c.if-byte-le-LAST_FINAL.false,
-  c.not_of_sequence-2.ensures.1,
-)
+returns c =
+    c.not_of_sequence-2.ensures ∙
+    above_finals _ _ _ _ _ c.if-place-text.false c.if-byte-le-LAST_FINAL.false

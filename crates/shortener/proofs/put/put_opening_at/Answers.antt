@@ -15,9 +15,5 @@ put_whole : (buffer : List ℕ) (at : ℕ) → at + length (opening Form.Seven) 
 unfolding with_opening
 put_whole buffer at room = rw (le-leb (at + length (opening Form.Seven)) (length buffer) room)
 
-pub returns : goal.returns
-returns c =
-    let put = c.put_opening.ensures in record {
-      value = search c.opening_length.ensures;
-      buffer_after = put ∙ put_whole c.args.buffer.now c.args.written.at c.requires.0;
-    }
+pub returns-clause-buffer_after : goal.returns-clause-buffer_after
+returns-clause-buffer_after c = c.put_opening.ensures ∙ put_whole c.args.buffer.now c.args.written.at c.requires.0

@@ -1,22 +1,30 @@
--- Each arm is a row of `code_by`.
-use Prim.Native.Nat.{ℕ, ◌+◌, ◌*◌}
+-- A character has its element and its number of bytes.
+use Prim.Native.Nat.{ℕ}
 use mathlib.Core.Path.{◌≡◌, sym, ap, ◌∙◌}
 use mathlib.Core.List.{List}
+use native.Mathlib.Omega.{arith}
+use borrow.Author.Rules.{rules}
 use Rattle.paper.specs.Results.{char_word}
+use Rattle.paper.specs.declared.Element.{Element}
 use Rattle.escapes.specs.declared.effect.Effect.{Effect}
+use Rattle.escapes.specs.Effects.{word_number}
 use Rattle.items.specs.Pieces.{bytes_in}
 use Rattle.items.specs.declared.piece.Piece.{Piece}
 use Rattle.items.proofs.BytesInANumber.{length_of_bytes}
-use Rattle.shortener.specs.Fours.{index_at}
-use Rattle.shortener.specs.Under.{code_by}
+use Rattle.shortener.specs.declared.code.Code.{Code}
+use Rattle.shortener.specs.ByElements.{element_of}
+use Rattle.shortener.specs.Under.{code_by, Fit}
 use Rattle.shortener.proofs.under.code_of.Goals as goal
 
-character : (cells : List ℕ) (x : Effect) (p : Piece) (code : ℕ) → x.word.0 ≡ char_word → code ≡ 16 * index_at x.value + p.count →
-    code ≡ code_by cells x (bytes_in p)
+character : (cells : List ℕ) (x : Effect) (p : Piece) (own : Element) → word_number x.word ≡ char_word → own ≡ element_of x.value →
+    Code.Character own p.count ≡ code_by cells x (bytes_in p)
 unfolding code_by
-character cells x p code is by = by ∙ ap (λ (n : ℕ). 16 * index_at x.value + n) (sym (length_of_bytes p)) ∙ rw is
+character cells x p own is by =
+    ap (λ (e : Element). Code.Character e p.count) by ∙
+    ap (λ (n : ℕ). Code.Character (element_of x.value) n) (sym (length_of_bytes p)) ∙ rw is
 
-pub returns-in-1 : goal.returns-in-1
-unfolding code_by
-returns-in-1 c = let args = c.args in
-    character args.state.now args.effect args.piece _ c.in-1.is c.code_of_character.ensures
+pub returns-in-CHAR : goal.returns-in-CHAR
+returns-in-CHAR c =
+    let u = c.args.unit in
+    let fit : Fit u.effect u.piece = search rules in
+    (character c.args.state.now u.effect u.piece _ (search rules) c.element_of.ensures, omega (arith, fit.small.few))

@@ -1,9 +1,0 @@
--- The pieces shown are within the bytes, and each turn leaves fewer.
-use Rattle.std.proofs.Common.{◌-◌, ◌≤◌, length}
-use Rattle.conversions.proofs.print_bytes.Given as goal
-
-abbrev pub invariant-loop-from : goal.invariant-loop-from
-invariant-loop-from g l = l.from ≤ length l.bytes
-
-abbrev pub decreases-loop-from : goal.decreases-loop-from
-decreases-loop-from g l = length l.bytes - l.from

@@ -1,6 +1,0 @@
--- What is put after each other is the clause of `answer_line`.
-use Rattle.listing.proofs.CutOnce.{joined}
-use Rattle.listing.proofs.lines.other_line.Goals as goal
-
-pub returns : goal.returns
-returns c = simp (joined, c.begin.ensures, c.end_with_sequence.ensures)

@@ -1,6 +1,0 @@
--- A space and a number put after each other are one text.
-use Rattle.listing.proofs.CutOnce.{joined}
-use Rattle.listing.proofs.making.put_number.Goals as goal
-
-pub returns : goal.returns
-returns c = simp (joined, c.put_byte.ensures, c.put_decimal.ensures)
