@@ -1,3 +1,4 @@
+pub mod BlockThere
 pub mod MatchGoesOn
 pub mod PutWhole
 pub mod RestThere

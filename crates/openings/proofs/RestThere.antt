@@ -11,7 +11,7 @@ use Rattle.std.specs.Str.{bytes_eq}
 use Rattle.paper.specs.Searching.{begins_with}
 use Rattle.paper.proofs.ListsThatEnd.{begins_rest, rest_begins}
 
-same_truth : (r s : Bool) → (r ≡ true → s ≡ true) → (s ≡ true → r ≡ true) → r ≡ s
+pub same_truth : (r s : Bool) → (r ≡ true → s ≡ true) → (s ≡ true → r ≡ true) → r ≡ s
 same_truth true s f g = sym (f refl)
 same_truth false true f g = g refl
 same_truth false false f g = refl

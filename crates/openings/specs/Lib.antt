@@ -1,2 +1,3 @@
 pub mod NextMatch
 pub mod InBuffers
+pub mod Blocks
