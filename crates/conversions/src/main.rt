@@ -5,9 +5,10 @@
 // those which must stay are seen as well. A case that is too long for this program, or that the input ends inside, ends the run.
 #![tactic(auto)]
 
-use desk::{form_named, length_of, read_full, read_whole};
+ghost use Rattle.std.specs.Prelude.{◌*◌, ◌≤◌};
+
+use desk::{form_named, hex, length_of, read_full, read_next};
 use paper::Form;
-use std::alloc::Global;
 use std::io;
 
 // The longest text and the longest lent buffer that are asked.
@@ -18,64 +19,92 @@ const LONGEST_LENT: usize = 200000;
 // At most so many cases are read, which bounds the loop.
 const CASES: usize = 100000;
 
-// The form is that of the output; the text is in the other one.
-#[derive(Drop)]
-struct Case {
-    form: Form,
-    fill: u8,
-    lent: usize,
-    text: Vec<u8>,
-}
+// Bytes are printed so many at a time, each as two digits and what parts it from the next.
+const AT_ONCE: usize = 4096;
 
-// Two digits for each byte, a space between two, and the line's end. Also in `shortenings`, as is the loop of `main`: what these print is
-// no definition's, and a library function for it would need one.
-fn print_bytes(rt: &impl Print, alloc: Global, bytes: &[u8]) -> io::Result<()> {
-    let mut line = String::new(alloc);
-    for byte in bytes {
-        write!(line, "{byte:02X} ")?;
+const PIECE: usize = 3 * AT_ONCE;
+
+// Spells bytes, at most so many, and answers how long that is.
+fn spell(bytes: &[u8], piece: &mut [u8; PIECE]) -> usize
+    ensures { result ≤ 3 * 4096 }
+{
+    let count = bytes.len().min(AT_ONCE);
+    for at in 0..count {
+        let [high, low] = hex(bytes[at]);
+        piece[3 * at] = high;
+        piece[3 * at + 1] = low;
+        piece[3 * at + 2] = b' ';
     }
-    println!(rt; "{}", line.trim_end())
+    3 * count
 }
 
-fn run_case(rt: &impl Print, alloc: Global, case: &Case) -> io::Result<()> {
-    let mut lent = vec![in alloc; case.fill; case.lent]?;
-    let converted = match case.form {
-        Form::Seven => converter::to_seven(&case.text, &mut lent),
-        Form::Eight => converter::to_eight(&case.text, &mut lent),
+// Two digits for each byte, a space between two, and the line's end; in pieces, so that no buffer three times as long is needed. Also in
+// `shortenings`, as is the loop of `main`: what these print is no definition's, and a library function for it would need one.
+fn print_bytes(rt: &impl Print, bytes: &[u8], piece: &mut [u8; PIECE]) -> io::Result<()> {
+    let mut left = bytes.len();
+    for some in bytes.chunks(AT_ONCE) {
+        let length = spell(some, piece);
+        left = left.saturating_sub(some.len());
+        if left == 0 && 0 < length {
+            piece[length - 1] = b'\n';
+        }
+        rt.write_all(&piece[..length])?;
+    }
+    if bytes.is_empty() {
+        rt.write_all(b"\n")?;
+    }
+    Ok(())
+}
+
+fn run_case(
+    rt: &impl Print,
+    form: Form,
+    text: &[u8],
+    lent: &mut [u8],
+    piece: &mut [u8; PIECE],
+) -> io::Result<()> {
+    let converted = match form {
+        Form::Seven => converter::to_seven(text, lent),
+        Form::Eight => converter::to_eight(text, lent),
     };
     match converted {
         Ok(length) => println!(rt; "done {length}")?,
         Err(refused) => println!(rt; "{refused}")?,
     }
-    print_bytes(rt, alloc, &lent)
+    print_bytes(rt, lent, piece)
 }
 
-// None where the input ends inside a case, and where it is too long.
-fn read_case(rt: &impl Input, alloc: Global) -> io::Result<Option<Case>> {
+// Reads a case and runs it; false where the input ends inside it, and where it is too long.
+fn run_one(
+    rt: &(impl Input + Print),
+    text: &mut [u8],
+    lent: &mut [u8],
+    piece: &mut [u8; PIECE],
+) -> io::Result<bool> {
     let mut head = [0u8; 8];
     if read_full(rt, &mut head)? < 8 {
-        return Ok(None);
+        return Ok(false);
     }
-    let lent = length_of(head[2], head[3], head[4]);
+    let Some(lent) = lent.get_mut(..length_of(head[2], head[3], head[4])) else {
+        return Ok(false);
+    };
     let length = length_of(head[5], head[6], head[7]);
-    if lent > LONGEST_LENT || length > LONGEST_TEXT {
-        return Ok(None);
-    }
-    let text = read_whole(rt.reader(), alloc, length)?;
-    Ok(text.map(|text| Case {
-        form: form_named(head[0]),
-        fill: head[1],
-        lent,
-        text,
-    }))
+    let Some(text) = read_next(rt, text, length)? else {
+        return Ok(false);
+    };
+    lent.fill(head[1]);
+    run_case(rt, form_named(head[0]), text, lent, piece)?;
+    Ok(true)
 }
 
 fn main(rt: HostRuntime) -> io::Result<()> {
-    let alloc = rt.alloc();
+    // lent to the library; no `Vec`, so that a run needs no more memory than it has at its start
+    let mut text = [0u8; LONGEST_TEXT];
+    let mut lent = [0u8; LONGEST_LENT];
+    let mut piece = [0u8; PIECE];
     for _ in 0..CASES {
-        match read_case(&rt, alloc)? {
-            Some(case) => run_case(&rt, alloc, &case)?,
-            None => break,
+        if !run_one(&rt, &mut text, &mut lent, &mut piece)? {
+            break;
         }
     }
     Ok(())

@@ -11,22 +11,25 @@ ghost use Rattle.std.specs.Prelude.{◌≡◌, true};
 ghost use Rattle.paper.specs.Texts.{answers_from};
 ghost use Rattle.cuts.specs.declared.Comparison.{Comparison};
 
-use desk::{digit_of, form_named, read_full, read_whole};
+use desk::{digit_of, form_named, read_full, read_next};
 use paper::{Answer, Form, Reader};
 use std::{fmt, io};
 
 // Any answer's line fits.
 const LINE: usize = 64;
 
+// A length has one byte, so no text is longer.
+const LONGEST_TEXT: usize = 255;
+
 // At most so many triples are read, which bounds the loop.
 const TRIPLES: usize = 1000000000;
 
-#[derive(Drop)]
-struct Triple {
+#[derive(Clone, Copy)]
+struct Triple<'a> {
     form: Form,
-    first: Vec<u8>,
-    between: Vec<u8>,
-    second: Vec<u8>,
+    first: &'a [u8],
+    between: &'a [u8],
+    second: &'a [u8],
 }
 
 // The answers to the second text, held against those of a reader just started. Three answers, and an Option in an Option would be no
@@ -102,10 +105,10 @@ fn print_answer(rt: &impl Print, offset: usize, answer: Answer) -> io::Result<()
 }
 
 // The reader has read the first text up to the cut.
-fn print_cut(rt: &impl Print, triple: &Triple, cut: usize, reader: Reader) -> io::Result<()> {
+fn print_cut(rt: &impl Print, triple: Triple, cut: usize, reader: Reader) -> io::Result<()> {
     let end = reader::end_word(reader);
-    let (last, after) = read_over(reader, &triple.between);
-    let comparison = compare(after, reader::start(triple.form), &triple.second);
+    let (last, after) = read_over(reader, triple.between);
+    let comparison = compare(after, reader::start(triple.form), triple.second);
     println!(rt; "cut {cut} {end} {comparison}")?;
     if let Some((offset, answer)) = last {
         // At most 509, so this never wraps.
@@ -115,7 +118,7 @@ fn print_cut(rt: &impl Print, triple: &Triple, cut: usize, reader: Reader) -> io
 }
 
 // Reading on from a reader leaves it as it was, so that the reader of one cut serves for the next.
-fn print_cuts(rt: &impl Print, triple: &Triple) -> io::Result<()> {
+fn print_cuts(rt: &impl Print, triple: Triple) -> io::Result<()> {
     let mut reader = reader::start(triple.form);
     for (cut, byte) in triple.first.iter().enumerate() {
         print_cut(rt, triple, cut, reader)?;
@@ -124,7 +127,7 @@ fn print_cuts(rt: &impl Print, triple: &Triple) -> io::Result<()> {
     print_cut(rt, triple, triple.first.len(), reader)
 }
 
-fn print_triple(rt: &impl Print, triple: &Triple) -> io::Result<()> {
+fn print_triple(rt: &impl Print, triple: Triple) -> io::Result<()> {
     println!(rt;
         "cuts {} {} {} {}",
         digit_of(triple.form),
@@ -142,25 +145,30 @@ fn read_byte(rt: &impl Input) -> io::Result<Option<u8>> {
 }
 
 // A length of one byte, and a text of that length.
-fn read_text(rt: &(impl Input + AllocGlobal)) -> io::Result<Option<Vec<u8>>> {
+fn read_text<'a>(rt: &impl Input, room: &'a mut [u8]) -> io::Result<Option<&'a [u8]>> {
     match read_byte(rt)? {
-        Some(length) => read_whole(rt.reader(), rt.alloc(), usize::from(length)),
+        Some(length) => read_next(rt, room, usize::from(length)),
         None => Ok(None),
     }
 }
 
 // None where the input ends inside a triple, as its parts are none then.
-fn read_triple(rt: &(impl Input + AllocGlobal)) -> io::Result<Option<Triple>> {
+fn read_triple<'a>(
+    rt: &impl Input,
+    first: &'a mut [u8],
+    between: &'a mut [u8],
+    second: &'a mut [u8],
+) -> io::Result<Option<Triple<'a>>> {
     let Some(form) = read_byte(rt)? else {
         return Ok(None);
     };
-    let Some(first) = read_text(rt)? else {
+    let Some(first) = read_text(rt, first)? else {
         return Ok(None);
     };
-    let Some(between) = read_text(rt)? else {
+    let Some(between) = read_text(rt, between)? else {
         return Ok(None);
     };
-    let Some(second) = read_text(rt)? else {
+    let Some(second) = read_text(rt, second)? else {
         return Ok(None);
     };
     Ok(Some(Triple {
@@ -172,9 +180,13 @@ fn read_triple(rt: &(impl Input + AllocGlobal)) -> io::Result<Option<Triple>> {
 }
 
 fn main(rt: HostRuntime) -> io::Result<()> {
+    // no `Vec`, so that a run needs no more memory than it has at its start
+    let mut first = [0u8; LONGEST_TEXT];
+    let mut between = [0u8; LONGEST_TEXT];
+    let mut second = [0u8; LONGEST_TEXT];
     for _ in 0..TRIPLES {
-        match read_triple(&rt)? {
-            Some(triple) => print_triple(&rt, &triple)?,
+        match read_triple(&rt, &mut first, &mut between, &mut second)? {
+            Some(triple) => print_triple(&rt, triple)?,
             None => break,
         }
     }

@@ -2,6 +2,7 @@
 #![tactic(auto)]
 
 ghost use Rattle.std.specs.Prelude.{◌≡◌, ◌≢◌, ◌∷◌, [], ◌≤◌, ◌<◌, None, Some, IfOk, IfSome, length, take};
+ghost use Rattle.paper.specs.Lister.{digit, hex};
 ghost use Rattle.desk.specs.Heads.{digit_of, form_named, length_of};
 
 use paper::Form;
@@ -34,6 +35,23 @@ pub fn read_start<'a>(rt: &impl Input, buffer: &'a mut [u8]) -> io::Result<&'a [
 {
     let count = read_full(rt, buffer)?;
     Ok(&buffer[..count])
+}
+
+// The next so many bytes of the input, at the start of the buffer; none where the input ends inside them, or where they do not fit.
+pub fn read_next<'a>(
+    rt: &impl Input,
+    buffer: &'a mut [u8],
+    count: usize,
+) -> io::Result<Option<&'a [u8]>>
+    ensures { IfOk result (λ next. IfSome next (λ text. length text.now ≡ count)) }
+{
+    let Some(room) = buffer.get_mut(..count) else {
+        return Ok(None);
+    };
+    if read_full(rt, room)? < count {
+        return Ok(None);
+    }
+    Ok(Some(room))
 }
 
 // What an input still has, or as many bytes of its start; a read that fails is an error.
@@ -85,6 +103,25 @@ pub fn length_of(first: u8, second: u8, third: u8) -> usize
     ensures { result ≡ length_of first second third }
 {
     usize::from(first) * 65536 + usize::from(second) * 256 + usize::from(third)
+}
+
+// The hex digit of a number below sixteen.
+fn digit(number: u8) -> u8
+    requires { number < 16 }
+    ensures { result ≡ digit number }
+{
+    if number < 10 {
+        b'0' + number
+    } else {
+        b'A' + (number - 10)
+    }
+}
+
+// A byte as two hex digits. A number is formatted by `{:02X}` at some fifteen times the cost (docs/SPEED.md).
+pub fn hex(byte: u8) -> [u8; 2]
+    ensures { result ≡ hex byte }
+{
+    [digit(byte / 16), digit(byte % 16)]
 }
 
 // More than one argument, or one that is longer than the buffer.

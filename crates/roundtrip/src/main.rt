@@ -5,13 +5,13 @@
 
 ghost use Rattle.std.specs.Prelude.{◌≡◌, None};
 
+use arrayvec::ArrayVec;
 use charsets::{DELETE, SPACE};
 use codetable::position_of;
+use desk::hex;
 use paper::{Answer, ControlElement, Count, Form, Located, Position, PositionBytes, Set};
 use refusals::LONGEST_TEXT;
-use std::alloc::AllocError;
 use std::env::Env;
-use std::fmt::Write;
 use std::io;
 
 // A text may have 65,536 bytes; one byte more shows that it is longer.
@@ -19,6 +19,11 @@ const ROOM: usize = LONGEST_TEXT + 1;
 
 // No output is longer than three bytes for each byte of the text.
 const LONGEST_OUTPUT: usize = 3 * LONGEST_TEXT;
+
+// A line of numbers has four digits or the word none, and its end. No byte of a text makes more than one line.
+const LINE: usize = 5;
+
+const LINES: usize = LINE * LONGEST_TEXT;
 
 // The C1 functions follow the 7-bit codes.
 const FIRST_C1: u32 = 0x80;
@@ -155,16 +160,22 @@ fn compare_back(rt: &impl Print, text: &[u8], seven: &[u8]) -> io::Result<()> {
     }
 }
 
-// A line of a number has four digits, since the two mapped sets have no number of more, or the word none.
-fn put_number(lines: &mut String, number: Option<u32>) -> Result<(), AllocError> {
-    match number {
-        Some(number) => writeln!(lines, "{number:04X}"),
-        None => lines.push_str("none\n"),
-    }
+// A line of a number has four digits, since the two mapped sets have no number of more, or the word none. By `{:04X}` the whole program takes
+// nearly twice as long (docs/SPEED.md). Where there were no room, which never comes, nothing is put.
+fn put_number(lines: &mut ArrayVec<u8, LINES>, number: Option<u32>) {
+    let line = match number {
+        Some(number) => {
+            let [first, second] = hex((number / 256 % 256) as u8);
+            let [third, fourth] = hex((number % 256) as u8);
+            [first, second, third, fourth, b'\n']
+        }
+        None => *b"none\n",
+    };
+    let _ = lines.try_extend_from_slice(&line);
 }
 
 // Some answers have no line.
-fn put_answer(lines: &mut String, answer: Answer) -> Result<(), AllocError> {
+fn put_answer(lines: &mut ArrayVec<u8, LINES>, answer: Answer) {
     match answer {
         Answer::Char(_, set, bytes) => put_number(lines, number_of(set, bytes)),
         Answer::Space => put_number(lines, Some(u32::from(SPACE))),
@@ -173,25 +184,25 @@ fn put_answer(lines: &mut String, answer: Answer) -> Result<(), AllocError> {
         Answer::Control(ControlElement::C1, _, code) => {
             put_number(lines, Some(FIRST_C1 + u32::from(code)))
         }
-        _ => Ok(()),
+        _ => {}
     }
 }
 
-// All lines at once, since a write for each would take most of the time.
-fn print_numbers(rt: &(impl Print + AllocGlobal), text: &[u8]) -> io::Result<()> {
-    let mut lines = String::new(rt.alloc());
+// All lines at once, since a write for each would take most of the time; in a place of a known size, so that memory cannot run out.
+fn print_numbers(rt: &impl Print, text: &[u8]) -> io::Result<()> {
+    let mut lines = ArrayVec::<u8, LINES>::new();
     let mut reader = reader::start(Form::Eight);
     for &byte in text {
         let given = reader::read(reader, byte);
-        put_answer(&mut lines, given.answer)?;
+        put_answer(&mut lines, given.answer);
         reader = given.reader;
     }
-    rt.write_all(lines.as_bytes())
+    rt.write_all(lines.as_slice())
 }
 
 // The way there refuses what the reading refuses, and a text that is too long: the numbers have no refusals of their own.
 #[tactic(auto, unfolding(paper::specs::Conversions::conversion))]
-fn go_there(rt: &(impl Print + AllocGlobal), text: &[u8], task: Task) -> io::Result<()> {
+fn go_there(rt: &impl Print, text: &[u8], task: Task) -> io::Result<()> {
     // lent, as in `compare_back`
     let mut seven = [0; LONGEST_OUTPUT];
     match (converter::to_seven(text, &mut seven), task) {
@@ -201,7 +212,7 @@ fn go_there(rt: &(impl Print + AllocGlobal), text: &[u8], task: Task) -> io::Res
     }
 }
 
-fn read_input(rt: &(impl Print + Eprint + Input + AllocGlobal), task: Task) -> io::Result<()> {
+fn read_input(rt: &(impl Print + Eprint + Input), task: Task) -> io::Result<()> {
     // no `Vec`: `desk::read_start` says why
     let mut room = [0; ROOM];
     match desk::read_start(rt, &mut room) {
