@@ -2,7 +2,7 @@
 // text is in 8-bit form, with the argument 7 in 7-bit form.
 #![tactic(auto)]
 
-use paper::{Form, Listed, Reader};
+use paper::{Answer, Form, Listed, Reader};
 use refusals::LONGEST_TEXT;
 use std::env::Env;
 use std::io;
@@ -25,10 +25,11 @@ fn print_piece(
     let (length, left) = match listing::list(text, offset, reader, &mut piece) {
         Ok(Listed::Done(length)) => (length, None),
         Ok(Listed::More(length, at, next)) => (length, Some((at, next))),
-        Err(refusal) => {
-            println!(rt; "0 refused {}", usize::from(refusal))?;
-            (0, None)
-        }
+        // the one line of a text that is refused as a whole, as the library makes it
+        Err(refusal) => (
+            listing::line_of(0, Answer::Refused(refusal), &mut piece).unwrap_or(0),
+            None,
+        ),
     };
     // `&piece[..length]` was tried, with the bound of ListingInPieces as a lemma: that the slice has the length stayed open.
     if let Some(lines) = piece.get(..length) {
