@@ -8,6 +8,10 @@ pub const SECOND: u64 = 0x100;
 
 pub const THIRD: u64 = 0x10000;
 
+pub const FOURTH: u64 = 0x1000000;
+
+pub const FIFTH: u64 = 0x100000000;
+
 // Below this a number has room for one place more.
 const ROOM: u64 = 0x100000000000000;
 

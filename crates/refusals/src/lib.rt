@@ -16,19 +16,19 @@ pub const LONGEST_INPUT: usize = 4096;
 pub const LEAST_WORK: usize = 65536;
 
 // The numbers of the paper's table, by name: an arm of a `match` takes a constant and no cast.
-const BYTE_OF_EIGHT_BITS: u8 = Refusal::ByteOfEightBits as u8;
+pub const BYTE_OF_EIGHT_BITS: u8 = Refusal::ByteOfEightBits as u8;
 
-const NOT_OF_SEQUENCE: u8 = Refusal::NotOfSequence as u8;
+pub const NOT_OF_SEQUENCE: u8 = Refusal::NotOfSequence as u8;
 
-const THIRD_INTERMEDIATE: u8 = Refusal::ThirdIntermediate as u8;
+pub const THIRD_INTERMEDIATE: u8 = Refusal::ThirdIntermediate as u8;
 
-const WITHOUT_MEANING: u8 = Refusal::WithoutMeaning as u8;
+pub const WITHOUT_MEANING: u8 = Refusal::WithoutMeaning as u8;
 
-const NOT_OF_SET: u8 = Refusal::NotOfSet as u8;
+pub const NOT_OF_SET: u8 = Refusal::NotOfSet as u8;
 
-const ANOTHER_AREA: u8 = Refusal::AnotherArea as u8;
+pub const ANOTHER_AREA: u8 = Refusal::AnotherArea as u8;
 
-const ENDS_INSIDE: u8 = Refusal::EndsInside as u8;
+pub const ENDS_INSIDE: u8 = Refusal::EndsInside as u8;
 
 const TOO_LONG: u8 = Refusal::TooLong as u8;
 
